@@ -1,0 +1,1 @@
+// The mathematics that the receiver rests on, proved once over abstract operations. No code runs here.

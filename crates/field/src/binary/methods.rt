@@ -1,0 +1,133 @@
+// How a binary field is made, and what it answers.
+ghost use mathlib.Core.Path.{_≡_};
+ghost use mathlib.Core.Bool.{cond, _&&_};
+ghost use Prim.Native.Nat.{ℕ, _^_, _<_, _≤_};
+ghost use lib.Dec.{ltb};
+ghost use Rattle.std.specs.Results.{errPart};
+ghost use Rattle.std.specs.Vec.{made};
+ghost use Rattle.fault.specs.First.{Judged};
+ghost use Rattle.field.specs.Binary.{binary, carryless, doubled, modulusOf, times as timesModulo};
+ghost use Rattle.field.specs.Faults.{refusalOf, BinaryFails};
+ghost use Rattle.field.specs.Meaning.{productOf};
+use crate::Field;
+use crate::FieldFault;
+use crate::binary::BinaryField;
+use crate::power::Product;
+use crate::power::raise;
+
+// The moduli for the degrees 2 to 8.
+const MODULI: [u16; 7] = [7, 11, 19, 37, 67, 131, 285];
+
+// Twice a, that is a times x, reduced once.
+fn double(a: u16, degree: u16, modulus: u16) -> u16
+    requires { ⌜ a < 256 ⌝ ∗ ⌜ degree ≤ 8 ⌝ ∗ ⌜ modulus < 512 ⌝ }
+    ensures { λ r. ⌜ r ≡ doubled modulus degree a ⌝ }
+{
+    let twice = a * 2;
+    if (twice >> degree) % 2 == 1 {
+        twice ^ modulus
+    } else {
+        twice
+    }
+}
+
+impl BinaryField {
+    // The field of degree m with all its elements or only two as letters, or a refusal where m is not 2 to 8.
+    pub fn new(m: usize, all: bool) -> Result<BinaryField, FieldFault>
+        ensures judged { λ r. ⌜ Judged refusalOf (BinaryFails m) (errPart r) ⌝ }
+        ensures made { λ r. ⌜ made r (λ f. (f .degree ≡ m) × (f .all ≡ all)) ⌝ }
+    {
+        if m < 2 || m > 8 {
+            return Err(FieldFault::Degree);
+        }
+        Ok(BinaryField {
+            degree: m as u16,
+            modulus: MODULI[m - 2],
+            all,
+        })
+    }
+
+    pub fn degree(&self) -> u16
+        ensures { λ r. ⌜ r ≡ now (self .entry) .degree ⌝ }
+    {
+        self.degree
+    }
+
+    // The modulus, which is no product of two polynomials of lower degree.
+    pub fn modulus(&self) -> u16
+        ensures value { λ r. ⌜ r ≡ modulusOf (now (self .entry) .degree) ⌝ }
+        ensures irreducible { λ r. ⌜ ((a b : ℕ) → a < 2 ^ (now (self .entry) .degree) → b < 2 ^ (now (self .entry) .degree) → carryless 8 a b ≡ r → ⊥) ⌝ }
+    {
+        self.modulus
+    }
+
+    // The number of elements.
+    fn order(&self) -> u16
+        ensures { λ r. ⌜ r ≡ 2 ^ (now (self .entry) .degree) ⌝ }
+    {
+        1u16 << self.degree
+    }
+
+    // The product of two elements, by Horner's rule over the bits of b, reducing at every step.
+    fn multiply(&self, a: u16, b: u16) -> u16
+        requires { ⌜ a < 2 ^ (now self .degree) ⌝ ∗ ⌜ b < 2 ^ (now self .degree) ⌝ }
+        ensures { λ r. ⌜ r ≡ timesModulo (now (self .entry) .degree) a b ⌝ }
+    {
+        let degree = self.degree;
+        let modulus = self.modulus;
+        let mut product = 0u16;
+        for i in (0..degree).rev() {
+            let term = if (b >> i) % 2 == 1 { a } else { 0 };
+            product = double(product, degree, modulus) ^ term;
+        }
+        product
+    }
+}
+
+impl Product for BinaryField as BinaryProduct {
+    ghost times = { λ f. productOf (binary (f .degree) (f .all)) };
+
+    fn times(&self, a: u16, b: u16) -> u16 {
+        let size = self.order();
+        if a < size && b < size {
+            self.multiply(a, b)
+        } else {
+            0
+        }
+    }
+}
+
+pub impl Field for BinaryField as BinaryArithmetic {
+    ghost meaning = { λ f. binary (f .degree) (f .all) };
+
+    fn size(&self) -> u16 {
+        self.order()
+    }
+
+    fn letters(&self) -> u16 {
+        if self.all { self.order() } else { 2 }
+    }
+
+    fn sum(&self, a: u16, b: u16) -> u16 {
+        let size = self.order();
+        if a < size && b < size { a ^ b } else { 0 }
+    }
+
+    fn negative(&self, a: u16) -> u16 {
+        let size = self.order();
+        if a < size { a } else { 0 }
+    }
+
+    fn product(&self, a: u16, b: u16) -> u16 {
+        self.times(a, b)
+    }
+
+    fn inverse(&self, a: u16) -> Option<u16> {
+        let size = self.order();
+        if 0 < a && a < size {
+            Some(raise(self, a, size - 2))
+        } else {
+            None
+        }
+    }
+}

@@ -1,0 +1,152 @@
+// How a prime field is made, and what it answers.
+ghost use mathlib.Core.Path.{_≡_};
+ghost use Prim.Native.Nat.{ℕ, _%_, _<_, _≤_};
+ghost use Rattle.std.specs.Options.{Cases as BySome};
+ghost use Rattle.std.specs.Results.{errPart};
+ghost use Rattle.std.specs.Vec.{made};
+ghost use Rattle.fault.specs.First.{Judged};
+ghost use Rattle.field.specs.Faults.{refusalOf, PrimeFails};
+ghost use Rattle.field.specs.Modular.{Prime, modular, times as timesModulo};
+use crate::Field;
+use crate::FieldFault;
+use crate::power::Product;
+use crate::power::raise;
+use crate::prime::PrimeField;
+
+// The odd primes below 256.
+const PRIMES: [u16; 53] = [
+    3,
+    5,
+    7,
+    11,
+    13,
+    17,
+    19,
+    23,
+    29,
+    31,
+    37,
+    41,
+    43,
+    47,
+    53,
+    59,
+    61,
+    67,
+    71,
+    73,
+    79,
+    83,
+    89,
+    97,
+    101,
+    103,
+    107,
+    109,
+    113,
+    127,
+    131,
+    137,
+    139,
+    149,
+    151,
+    157,
+    163,
+    167,
+    173,
+    179,
+    181,
+    191,
+    193,
+    197,
+    199,
+    211,
+    223,
+    227,
+    229,
+    233,
+    239,
+    241,
+    251,
+];
+
+// The entry of the table that equals p.
+fn entry(p: usize) -> Option<u16>
+    ensures { λ r. ⌜ BySome r ((3 ≤ p) × (p ≤ 251) × Prime p → ⊥) (λ q. (q ≡ p) × (3 ≤ q) × (q ≤ 251) × Prime q) ⌝ }
+{
+    for q in PRIMES {
+        if usize::from(q) == p {
+            return Some(q);
+        }
+    }
+    None
+}
+
+impl PrimeField {
+    // The field of p elements, or a refusal where p is no prime of 3 to 251.
+    pub fn new(p: usize) -> Result<PrimeField, FieldFault>
+        ensures judged { λ r. ⌜ Judged refusalOf (PrimeFails p) (errPart r) ⌝ }
+        ensures made { λ r. ⌜ made r (λ f. f .p ≡ p) ⌝ }
+    {
+        match entry(p) {
+            Some(p) => Ok(PrimeField { p }),
+            None => Err(FieldFault::Characteristic),
+        }
+    }
+
+    // The prime, which has no divisor from 2 to p − 1.
+    pub fn characteristic(&self) -> u16
+        ensures value { λ r. ⌜ r ≡ now (self .entry) .p ⌝ }
+        ensures prime { λ r. ⌜ Prime r ⌝ }
+    {
+        self.p
+    }
+}
+
+impl Product for PrimeField as PrimeProduct {
+    ghost times = { λ f. timesModulo (f .p) };
+
+    fn times(&self, a: u16, b: u16) -> u16 {
+        (u32::from(a) * u32::from(b) % u32::from(self.p)) as u16
+    }
+}
+
+pub impl Field for PrimeField as PrimeArithmetic {
+    ghost meaning = { λ f. modular (f .p) };
+
+    fn size(&self) -> u16 {
+        self.p
+    }
+
+    fn letters(&self) -> u16 {
+        self.p
+    }
+
+    fn sum(&self, a: u16, b: u16) -> u16 {
+        if a < self.p && b < self.p {
+            (a + b) % self.p
+        } else {
+            0
+        }
+    }
+
+    fn negative(&self, a: u16) -> u16 {
+        if a < self.p { (self.p - a) % self.p } else { 0 }
+    }
+
+    fn product(&self, a: u16, b: u16) -> u16 {
+        if a < self.p && b < self.p {
+            self.times(a, b)
+        } else {
+            0
+        }
+    }
+
+    fn inverse(&self, a: u16) -> Option<u16> {
+        if 0 < a && a < self.p {
+            Some(raise(self, a, self.p - 2))
+        } else {
+            None
+        }
+    }
+}
