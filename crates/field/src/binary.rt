@@ -5,13 +5,13 @@ ghost use Rattle.field.specs.Binary.{modulusOf};
 
 pub mod methods;
 
-// The degree with its modulus; `all` says whether every element is a letter or only 0 and 1 are.
+// The degree m with its modulus; `all` says whether every element is a letter or only 0 and 1 are.
 #[derive(Clone, Copy, Debug, PartialEq, Eq)]
 pub struct BinaryField {
-    degree: u16,
-    modulus: u16,
+    m: u8,
+    polynomial: u16,
     all: bool,
-    ghost above: { 2 ≤ degree },
-    ghost below: { degree ≤ 8 },
-    ghost listed: { modulus ≡ modulusOf degree },
+    ghost above: { 2 ≤ m },
+    ghost below: { m ≤ 8 },
+    ghost listed: { polynomial ≡ modulusOf m },
 }

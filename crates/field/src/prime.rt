@@ -7,7 +7,7 @@ pub mod methods;
 // A prime of the table; that it is one stands in the type.
 #[derive(Clone, Copy, Debug, PartialEq, Eq)]
 pub struct PrimeField {
-    p: u16,
+    p: u8,
     ghost above: { 3 ≤ p },
     ghost below: { p ≤ 251 },
     ghost undivided: { (d : ℕ) → 2 ≤ d → d < p → p % d ≡ 0 → ⊥ },

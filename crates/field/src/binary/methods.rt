@@ -31,66 +31,66 @@ fn double(a: u16, degree: u16, modulus: u16) -> u16
     }
 }
 
+// The product of two elements, by Horner's rule over the bits of b, reducing at every step.
+fn multiply(degree: u16, modulus: u16, a: u16, b: u16) -> u16
+    requires range { ⌜ 2 ≤ degree ⌝ ∗ ⌜ degree ≤ 8 ⌝ }
+    requires listed { ⌜ modulus ≡ modulusOf degree ⌝ }
+    requires elements { ⌜ a < 2 ^ degree ⌝ ∗ ⌜ b < 2 ^ degree ⌝ }
+    ensures { λ r. ⌜ r ≡ timesModulo degree a b ⌝ }
+{
+    let mut product = 0u16;
+    for i in (0..degree).rev() {
+        let term = if (b >> i) % 2 == 1 { a } else { 0 };
+        product = double(product, degree, modulus) ^ term;
+    }
+    product
+}
+
 impl BinaryField {
     // The field of degree m with all its elements or only two as letters, or a refusal where m is not 2 to 8.
     pub fn new(m: usize, all: bool) -> Result<BinaryField, FieldFault>
         ensures judged { λ r. ⌜ Judged refusalOf (BinaryFails m) (errPart r) ⌝ }
-        ensures made { λ r. ⌜ made r (λ f. (f .degree ≡ m) × (f .all ≡ all)) ⌝ }
+        ensures made { λ r. ⌜ made r (λ f. (f .m ≡ m) × (f .all ≡ all)) ⌝ }
     {
         if m < 2 || m > 8 {
             return Err(FieldFault::Degree);
         }
         Ok(BinaryField {
-            degree: m as u16,
-            modulus: MODULI[m - 2],
+            m: m as u8,
+            polynomial: MODULI[m - 2],
             all,
         })
     }
 
     pub fn degree(&self) -> u16
-        ensures { λ r. ⌜ r ≡ now (self .entry) .degree ⌝ }
+        ensures { λ r. ⌜ r ≡ now (self .entry) .m ⌝ }
     {
-        self.degree
+        u16::from(self.m)
     }
 
     // The modulus, which is no product of two polynomials of lower degree.
     pub fn modulus(&self) -> u16
-        ensures value { λ r. ⌜ r ≡ modulusOf (now (self .entry) .degree) ⌝ }
-        ensures irreducible { λ r. ⌜ ((a b : ℕ) → a < 2 ^ (now (self .entry) .degree) → b < 2 ^ (now (self .entry) .degree) → carryless 8 a b ≡ r → ⊥) ⌝ }
+        ensures value { λ r. ⌜ r ≡ modulusOf (now (self .entry) .m) ⌝ }
+        ensures irreducible { λ r. ⌜ ((a b : ℕ) → a < 2 ^ (now (self .entry) .m) → b < 2 ^ (now (self .entry) .m) → carryless 8 a b ≡ r → ⊥) ⌝ }
     {
-        self.modulus
+        self.polynomial
     }
 
     // The number of elements.
     fn order(&self) -> u16
-        ensures { λ r. ⌜ r ≡ 2 ^ (now (self .entry) .degree) ⌝ }
+        ensures { λ r. ⌜ r ≡ 2 ^ (now (self .entry) .m) ⌝ }
     {
-        1u16 << self.degree
-    }
-
-    // The product of two elements, by Horner's rule over the bits of b, reducing at every step.
-    fn multiply(&self, a: u16, b: u16) -> u16
-        requires { ⌜ a < 2 ^ (now self .degree) ⌝ ∗ ⌜ b < 2 ^ (now self .degree) ⌝ }
-        ensures { λ r. ⌜ r ≡ timesModulo (now (self .entry) .degree) a b ⌝ }
-    {
-        let degree = self.degree;
-        let modulus = self.modulus;
-        let mut product = 0u16;
-        for i in (0..degree).rev() {
-            let term = if (b >> i) % 2 == 1 { a } else { 0 };
-            product = double(product, degree, modulus) ^ term;
-        }
-        product
+        1u16 << self.degree()
     }
 }
 
 impl Product for BinaryField as BinaryProduct {
-    ghost times = { λ f. productOf (binary (f .degree) (f .all)) };
+    ghost times = { λ f. productOf (binary (f .m) (f .all)) };
 
     fn times(&self, a: u16, b: u16) -> u16 {
         let size = self.order();
         if a < size && b < size {
-            self.multiply(a, b)
+            multiply(self.degree(), self.modulus(), a, b)
         } else {
             0
         }
@@ -98,14 +98,14 @@ impl Product for BinaryField as BinaryProduct {
 }
 
 pub impl Field for BinaryField as BinaryArithmetic {
-    ghost meaning = { λ f. binary (f .degree) (f .all) };
+    ghost meaning = { λ f. binary (f .m) (f .all) };
 
     fn size(&self) -> u16 {
         self.order()
     }
 
     fn letters(&self) -> u16 {
-        if self.all { self.order() } else { 2 }
+        if self.all { self.size() } else { 2 }
     }
 
     fn sum(&self, a: u16, b: u16) -> u16 {
@@ -114,8 +114,7 @@ pub impl Field for BinaryField as BinaryArithmetic {
     }
 
     fn negative(&self, a: u16) -> u16 {
-        let size = self.order();
-        if a < size { a } else { 0 }
+        if a < self.order() { a } else { 0 }
     }
 
     fn product(&self, a: u16, b: u16) -> u16 {

@@ -14,7 +14,7 @@ use crate::power::raise;
 use crate::prime::PrimeField;
 
 // The odd primes below 256.
-const PRIMES: [u16; 53] = [
+const PRIMES: [u8; 53] = [
     3,
     5,
     7,
@@ -71,7 +71,7 @@ const PRIMES: [u16; 53] = [
 ];
 
 // The entry of the table that equals p.
-fn entry(p: usize) -> Option<u16>
+fn entry(p: usize) -> Option<u8>
     ensures { λ r. ⌜ BySome r ((3 ≤ p) × (p ≤ 251) × Prime p → ⊥) (λ q. (q ≡ p) × (3 ≤ q) × (q ≤ 251) × Prime q) ⌝ }
 {
     for q in PRIMES {
@@ -99,7 +99,7 @@ impl PrimeField {
         ensures value { λ r. ⌜ r ≡ now (self .entry) .p ⌝ }
         ensures prime { λ r. ⌜ Prime r ⌝ }
     {
-        self.p
+        u16::from(self.p)
     }
 }
 
@@ -107,7 +107,7 @@ impl Product for PrimeField as PrimeProduct {
     ghost times = { λ f. timesModulo (f .p) };
 
     fn times(&self, a: u16, b: u16) -> u16 {
-        (u32::from(a) * u32::from(b) % u32::from(self.p)) as u16
+        (u32::from(a) * u32::from(b) % u32::from(self.characteristic())) as u16
     }
 }
 
@@ -115,27 +115,34 @@ pub impl Field for PrimeField as PrimeArithmetic {
     ghost meaning = { λ f. modular (f .p) };
 
     fn size(&self) -> u16 {
-        self.p
+        self.characteristic()
     }
 
     fn letters(&self) -> u16 {
-        self.p
+        self.size()
     }
 
     fn sum(&self, a: u16, b: u16) -> u16 {
-        if a < self.p && b < self.p {
-            (a + b) % self.p
+        let p = self.characteristic();
+        if a < p && b < p {
+            (a + b) % p
         } else {
             0
         }
     }
 
     fn negative(&self, a: u16) -> u16 {
-        if a < self.p { (self.p - a) % self.p } else { 0 }
+        let p = self.characteristic();
+        if a < p {
+            (p - a) % p
+        } else {
+            0
+        }
     }
 
     fn product(&self, a: u16, b: u16) -> u16 {
-        if a < self.p && b < self.p {
+        let p = self.characteristic();
+        if a < p && b < p {
             self.times(a, b)
         } else {
             0
@@ -143,8 +150,9 @@ pub impl Field for PrimeField as PrimeArithmetic {
     }
 
     fn inverse(&self, a: u16) -> Option<u16> {
-        if 0 < a && a < self.p {
-            Some(raise(self, a, self.p - 2))
+        let p = self.characteristic();
+        if 0 < a && a < p {
+            Some(raise(self, a, p - 2))
         } else {
             None
         }

@@ -7,5 +7,5 @@ returns c =
     let f = c .args .self .now in
     record {
       value = f .listed;
-      irreducible = λ a b h k e. irreducible (f .degree) (f .above) (f .below) a b h k (e ∙ f .listed);
+      irreducible = λ a b h k e. irreducible (f .m) (f .above) (f .below) a b h k (e ∙ f .listed);
     }

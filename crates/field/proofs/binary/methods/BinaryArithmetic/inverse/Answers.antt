@@ -10,4 +10,4 @@ pub returns-then-a-size : need.returns-then-a-size
 returns-then-a-size c =
     let f = c .args .self .now in
     let whole = c .order-size .ensures in
-    inverse-answered (f .degree) (f .above) (f .below) (f .all) (c .args .a) (c .raise .result) (c .if-a-gt0 .taken) (subst (λ (x : ℕ). c .args .a < x) whole (c .if-a-size .taken)) (c .raise .ensures ∙ ap (λ x. power (productOf (binary (f .degree) (f .all))) 8 1 (c .args .a) (x - 2)) whole)
+    inverse-answered (f .m) (f .above) (f .below) (f .all) (c .args .a) (c .raise .result) (c .if-a-gt0 .taken) (subst (λ (x : ℕ). c .args .a < x) whole (c .if-a-size .taken)) (c .raise .ensures ∙ ap (λ x. power (productOf (binary (f .m) (f .all))) 8 1 (c .args .a) (x - 2)) whole)

@@ -10,18 +10,18 @@ use Rattle.field.proofs.binary.methods.BinaryArithmetic.the-impl.Needs as need
 pub bounds-law : need.bounds-law
 bounds-law f = go (f .all)
   where
-    go : (all : Bool) → (2 ≤ cond all (2 ^ (f .degree)) 2) × (cond all (2 ^ (f .degree)) 2 ≤ 2 ^ (f .degree)) × (2 ^ (f .degree) ≤ 256)
-    go true = (omega (arith, laws.four-elements (f .degree) (f .above) (f .below)), omega arith, laws.few-elements (f .degree) (f .above) (f .below))
-    go false = (omega arith, omega (arith, laws.four-elements (f .degree) (f .above) (f .below)), laws.few-elements (f .degree) (f .above) (f .below))
+    go : (all : Bool) → (2 ≤ cond all (2 ^ (f .m)) 2) × (cond all (2 ^ (f .m)) 2 ≤ 2 ^ (f .m)) × (2 ^ (f .m) ≤ 256)
+    go true = (omega (arith, laws.four-elements (f .m) (f .above) (f .below)), omega arith, laws.few-elements (f .m) (f .above) (f .below))
+    go false = (omega arith, omega (arith, laws.four-elements (f .m) (f .above) (f .below)), laws.few-elements (f .m) (f .above) (f .below))
 
 pub sum-closed-law : need.sum-closed-law
-sum-closed-law f a b h k = xor-lt (f .degree) a b h k
+sum-closed-law f a b h k = xor-lt (f .m) a b h k
 
 pub product-closed-law : need.product-closed-law
-product-closed-law f a b h k = laws.closed (f .degree) (f .above) (f .below) a b h k
+product-closed-law f a b h k = laws.closed (f .m) (f .above) (f .below) a b h k
 
 pub inverse-closed-law : need.inverse-closed-law
-inverse-closed-law f a h n = laws.inverse-closed (f .degree) (f .above) (f .below) a h
+inverse-closed-law f a h n = laws.inverse-closed (f .m) (f .above) (f .below) a h
 
 pub sum-commutes-law : need.sum-commutes-law
 sum-commutes-law f a b _ _ = xor-comm a b
@@ -36,16 +36,16 @@ pub sum-negative-law : need.sum-negative-law
 sum-negative-law f a _ = xor-self a
 
 pub product-commutes-law : need.product-commutes-law
-product-commutes-law f a b h k = laws.commutes (f .degree) (f .above) (f .below) a b h k
+product-commutes-law f a b h k = laws.commutes (f .m) (f .above) (f .below) a b h k
 
 pub product-associates-law : need.product-associates-law
-product-associates-law f a b c h k l = laws.associates (f .degree) (f .above) (f .below) a b c h k l
+product-associates-law f a b c h k l = laws.associates (f .m) (f .above) (f .below) a b c h k l
 
 pub product-one-law : need.product-one-law
-product-one-law f a h = laws.one (f .degree) (f .above) (f .below) a h
+product-one-law f a h = laws.one (f .m) (f .above) (f .below) a h
 
 pub product-distributes-law : need.product-distributes-law
-product-distributes-law f a b c _ _ _ = times-right (f .degree) a b c
+product-distributes-law f a b c _ _ _ = times-right (f .m) a b c
 
 pub product-inverse-law : need.product-inverse-law
-product-inverse-law f a h n = laws.inverse-right (f .degree) (f .above) (f .below) a h n
+product-inverse-law f a h n = laws.inverse-right (f .m) (f .above) (f .below) a h n
