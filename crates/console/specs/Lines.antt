@@ -1,6 +1,7 @@
 -- Which words spell which command.
 use mathlib.Core.Path.{_≡_}
 use mathlib.Core.List.{List, [], map}
+use mathlib.Core.Logic.{_⊎_}
 use Prim.Native.Nat.{ℕ, _<_, _≤_}
 use lib.Chars.{codes}
 use lib.ListN.{length, getD}
@@ -13,6 +14,10 @@ use Rattle.console.specs.declared.command.Verb.the-variants.{Prime, BinaryTwo,
 -- the texts of the words of a line
 abbrev pub texts : List (RefT (List ℕ)) → List (List ℕ)
 texts words = map (λ w. w .now) words
+
+-- the line asks for nothing: it has no first word, or one that begins with #
+abbrev pub Silent : List (List ℕ) → Type 0
+Silent ws = (length (getD ws 0 []) ≡ 0) ⊎ (getD (getD ws 0 []) 0 0 ≡ 35)
 
 -- word i of the line is the text
 abbrev pub Word : List (List ℕ) → ℕ → List ℕ → Type 0

@@ -8,12 +8,12 @@ ghost use Rattle.std.specs.Orderings.{Decides};
 ghost use Rattle.std.specs.Reads.{ReadsUnsigned};
 ghost use Rattle.std.specs.Results.{Cases};
 ghost use Rattle.console.specs.declared.answer.Trouble.the-variants.{Number};
-ghost use Rattle.console.specs.Lines.{texts, Word, FirstSlash, Spells};
+ghost use Rattle.console.specs.Lines.{texts, Silent, Word, FirstSlash, Spells};
 use crate::Trouble;
 
 // The commands by their words.
 #[derive(Clone, Copy)]
-pub enum Verb {
+pub(crate) enum Verb {
     Prime,
     BinaryTwo,
     BinaryAll,
@@ -36,10 +36,18 @@ const VERBS: [Verb; 8] = [
 ];
 
 // Word i, or no text where there is no such word.
-pub fn word<'a>(words: &[&'a str], i: usize) -> &'a str
+pub(crate) fn word<'a>(words: &[&'a str], i: usize) -> &'a str
     ensures { λ r. ⌜ now r ≡ getD (texts (now (words .entry))) i [] ⌝ }
 {
     if i < words.len() { words[i] } else { "" }
+}
+
+// Whether a line asks for nothing: it has no words, or its first word begins with #.
+pub fn passed_over(words: &[&str]) -> bool
+    ensures { λ r. ⌜ Decides r (Silent (texts (now (words .entry)))) ⌝ }
+{
+    let first = word(words, 0).as_bytes();
+    first.is_empty() || first[0] == b'#'
 }
 
 // Whether word i is the text.
@@ -50,7 +58,7 @@ fn is(words: &[&str], i: usize, text: &str) -> bool
 }
 
 // The first word from there on that is a slash.
-pub fn slash_after(words: &[&str], from: usize) -> Option<usize>
+pub(crate) fn slash_after(words: &[&str], from: usize) -> Option<usize>
     ensures first { λ r. ⌜ FirstSlash (texts (now (words .entry))) from r ⌝ }
     ensures within { λ r. ⌜ BySome r (Unit {0}) (λ j. j < length (now (words .entry))) ⌝ }
 {
@@ -69,8 +77,14 @@ fn spells(verb: Verb, words: &[&str]) -> bool
     let count = words.len();
     match verb {
         Verb::Prime => (count == 3) & is(words, 0, "field") & is(words, 1, "prime"),
-        Verb::BinaryTwo => (count == 4) & is(words, 0, "field") & is(words, 1, "binary") & is(words, 3, "two"),
-        Verb::BinaryAll => (count == 4) & is(words, 0, "field") & is(words, 1, "binary") & is(words, 3, "all"),
+        Verb::BinaryTwo => (count == 4)
+            & is(words, 0, "field")
+            & is(words, 1, "binary")
+            & is(words, 3, "two"),
+        Verb::BinaryAll => (count == 4)
+            & is(words, 0, "field")
+            & is(words, 1, "binary")
+            & is(words, 3, "all"),
         Verb::Sum => (count == 3) & is(words, 0, "sum"),
         Verb::Negative => (count == 2) & is(words, 0, "negative"),
         Verb::Product => (count == 3) & is(words, 0, "product"),
@@ -80,7 +94,7 @@ fn spells(verb: Verb, words: &[&str]) -> bool
 }
 
 // The command that the words spell, if they spell one.
-pub fn verb_of(words: &[&str]) -> Option<Verb>
+pub(crate) fn verb_of(words: &[&str]) -> Option<Verb>
     ensures { λ r. ⌜ BySome r ((v : Verb) → Spells v (texts (now (words .entry))) → ⊥) (λ v. Spells v (texts (now (words .entry)))) ⌝ }
 {
     for verb in VERBS {
@@ -92,7 +106,7 @@ pub fn verb_of(words: &[&str]) -> Option<Verb>
 }
 
 // The number that a word writes.
-pub fn number(word: &str) -> Result<usize, Trouble>
+pub(crate) fn number(word: &str) -> Result<usize, Trouble>
     ensures reads { λ r. ⌜ ReadsUnsigned 64 10 (now (word .entry)) r ⌝ }
     ensures trouble { λ r. ⌜ Cases r (λ _. Unit {0}) (λ t. t ≡ Number) ⌝ }
 {
@@ -103,7 +117,7 @@ pub fn number(word: &str) -> Result<usize, Trouble>
 }
 
 // The 16-bit number that a word writes.
-pub fn element(word: &str) -> Result<u16, Trouble>
+pub(crate) fn element(word: &str) -> Result<u16, Trouble>
     ensures reads { λ r. ⌜ ReadsUnsigned 16 10 (now (word .entry)) r ⌝ }
     ensures trouble { λ r. ⌜ Cases r (λ _. Unit {0}) (λ t. t ≡ Number) ⌝ }
 {

@@ -124,29 +124,17 @@ pub impl Field for PrimeField as PrimeArithmetic {
 
     fn sum(&self, a: u16, b: u16) -> u16 {
         let p = self.characteristic();
-        if a < p && b < p {
-            (a + b) % p
-        } else {
-            0
-        }
+        if a < p && b < p { (a + b) % p } else { 0 }
     }
 
     fn negative(&self, a: u16) -> u16 {
         let p = self.characteristic();
-        if a < p {
-            (p - a) % p
-        } else {
-            0
-        }
+        if a < p { (p - a) % p } else { 0 }
     }
 
     fn product(&self, a: u16, b: u16) -> u16 {
         let p = self.characteristic();
-        if a < p && b < p {
-            self.times(a, b)
-        } else {
-            0
-        }
+        if a < p && b < p { self.times(a, b) } else { 0 }
     }
 
     fn inverse(&self, a: u16) -> Option<u16> {

@@ -18,8 +18,7 @@ loop-word-again c =
     let words = c .args .words .now in
     let pushed = c .in-Continue-push .ensures tt in
     let after = vec-items (c .push .last .self) in
-    let at : getD after (c .loop-word .word-index) 0 ≡ c .in-Continue-element .field-0 = subst (λ (n : ℕ). getD after n 0 ≡ c .in-Continue-element .field-0) (c .loop-word .inv .0) (pushed .places .1 0 refl) in
-    (
+    let at : getD after (c .loop-word .word-index) 0 ≡ c .in-Continue-element .field-0 = subst (λ (n : ℕ). getD after n 0 ≡ c .in-Continue-element .field-0) (c .loop-word .inv .0) (pushed .places .1 0 refl) in (
       omega (arith, pushed .len, c .loop-word .inv .0),
       pushes-more (λ k x. Writes 16 (getD (texts words) k []) x) (vec-items (c .loop-word .numbers)) after (c .loop-word .word-index) (λ k d h. pushed .places .0 k d (omega (arith, c .loop-word .inv .0))) (c .loop-word .inv .1) (writes-at 16 words (c .loop-word .word-index) _ _ (c .in-Continue-element .ensures tt .reads) at),
     )

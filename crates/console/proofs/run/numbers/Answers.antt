@@ -12,8 +12,7 @@ use Rattle.console.proofs.run.numbers.Needs as need
 pub loop-i-again : need.loop-i-again
 loop-i-again c =
     let words = c .args .words .now in
-    let x = c .in-Continue-six .field-0 in
-    (
+    let x = c .in-Continue-six .field-0 in (
       length-set (c .loop-i .six) (c .loop-i .i) x ∙ c .loop-i .inv .0,
       writes-more (λ k y. Writes 64 (getD (texts words) (k + 1) []) y) (c .loop-i .six) (c .loop-i .i) x (omega (arith, c .loop-i .inv .0)) (c .loop-i .inv .1) (subst (λ (t : List ℕ). Writes 64 t x) (c .word .ensures) (c .in-Continue-six .ensures tt .reads)),
     )

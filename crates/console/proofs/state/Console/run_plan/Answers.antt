@@ -49,8 +49,7 @@ returns c =
       w = getD (c .in-Continue-six .six) 3 0;
       k = getD (c .in-Continue-six .six) 4 0;
       l = getD (c .in-Continue-six .six) 5 0;
-    } in
-    (
+    } in (
       asked,
       α,
       β,

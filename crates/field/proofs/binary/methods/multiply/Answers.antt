@@ -14,8 +14,8 @@ loop-i-holds c = (pow-pos (c .args .degree), sym (horner-none (c .args .degree) 
 pub loop-i-again : need.loop-i-again
 loop-i-again c =
     let chosen : c .if-b-i-eq1 .term ≡ c .args .b / 2 ^ (c .loop-i .i - 1) % 2 * c .args .a = elim (c .if-b-i-eq1 .came) [
-      then-b-i-eq1 w ↦ w .term-is ∙ bit-takes _ _ (w .if-b-i-eq1 .taken)
-    | else-b-i-eq1 w ↦ w .term-is ∙ bit-leaves _ _ (w .if-b-i-eq1 .left)
+      | then-b-i-eq1 w ↦ w .term-is ∙ bit-takes _ _ (w .if-b-i-eq1 .taken)
+      | else-b-i-eq1 w ↦ w .term-is ∙ bit-leaves _ _ (w .if-b-i-eq1 .left)
     ] in
     horner-again (c .args .degree) (c .loop-i .i) (c .args .a) (c .args .b) (c .loop-i .product) _ _ (c .args .modulus) (c .pre .range .0) (c .pre .range .1) (c .loop-i-test .taken) (c .loop-i .kept .i) (c .pre .elements .0) (c .pre .listed) (c .loop-i .inv .0) (c .loop-i .inv .1) (c .double .ensures) chosen
 
