@@ -1,6 +1,6 @@
 // How a prime field is made, and what it answers.
 ghost use mathlib.Core.Path.{_≡_};
-ghost use Prim.Native.Nat.{ℕ, _%_, _<_, _≤_};
+ghost use Prim.Native.Nat.{ℕ, _*_, _%_, _<_, _≤_};
 ghost use Rattle.std.specs.Options.{Cases as BySome};
 ghost use Rattle.std.specs.Results.{errPart};
 ghost use Rattle.std.specs.Vec.{made};
@@ -82,6 +82,14 @@ fn entry(p: usize) -> Option<u8>
     None
 }
 
+// The remainder of a number below 2p, with no division.
+fn reduce(a: u16, p: u16) -> u16
+    requires { ⌜ a < 2 * p ⌝ }
+    ensures { λ r. ⌜ r ≡ a % p ⌝ }
+{
+    if a < p { a } else { a - p }
+}
+
 impl PrimeField {
     // The field of p elements, or a refusal where p is no prime of 3 to 251.
     pub fn new(p: usize) -> Result<PrimeField, FieldFault>
@@ -124,12 +132,12 @@ pub impl Field for PrimeField as PrimeArithmetic {
 
     fn sum(&self, a: u16, b: u16) -> u16 {
         let p = self.characteristic();
-        if a < p && b < p { (a + b) % p } else { 0 }
+        if a < p && b < p { reduce(a + b, p) } else { 0 }
     }
 
     fn negative(&self, a: u16) -> u16 {
         let p = self.characteristic();
-        if a < p { (p - a) % p } else { 0 }
+        if a < p { reduce(p - a, p) } else { 0 }
     }
 
     fn product(&self, a: u16, b: u16) -> u16 {
