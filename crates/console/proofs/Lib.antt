@@ -1,4 +1,0 @@
-pub mod Numbers
-pub mod PlanLines
-pub mod Verbs
-pub mod Words

@@ -1,4 +1,2 @@
-pub mod Lines
-pub mod Runs
 pub mod States
 pub mod Text

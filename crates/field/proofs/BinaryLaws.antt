@@ -14,9 +14,7 @@ use Rattle.field.proofs.Polynomials.{carryless-left, carryless-right, times-le
 use Rattle.field.proofs.Powers.{power-closed, power-agrees}
 use mathlib.Core.Bool.{Bool}
 use Rattle.std.proofs.shelf.Ways.{tells}
-use Rattle.std.specs.declared.option.Option.{Option}
-use Rattle.std.specs.declared.option.Option.the-variants.{Some, None}
-use Rattle.field.specs.Meaning.{productOf, inverseOf}
+use Rattle.field.specs.Meaning.{productOf}
 
 -- composites of additive functions
 then-left : (m b : ℕ) (f : ℕ → ℕ) → Additive f → Additive (λ a. times m (f a) b)
@@ -83,9 +81,8 @@ module _ (m : ℕ) (low : 2 ≤ m) (high : m ≤ 8) where
       go (yes z) = none (sym e ∙ ap (λ x. carryless 8 x b) z ∙ additive-zero (λ x. carryless 8 x b) (carryless-left 8 b))
       go (no n) = none (sym e ∙ ap (carryless 8 a) (no-zero-divisor a b h k vanishes n) ∙ additive-zero (carryless 8 a) (carryless-right 8 a))
 
-  -- the power of the total product is the inverse
-  pub inverse-answered : (all : Bool) (a r : ℕ) → 0 < a → a < 2 ^ m → r ≡ power (productOf (binary m all)) 8 1 a (2 ^ m - 2) → Some r ≡ inverseOf (binary m all) a
-  inverse-answered all a r some h e =
+  -- the power of the total product is the power of the product of elements
+  pub inverse-answered : (all : Bool) (a r : ℕ) → a < 2 ^ m → r ≡ power (productOf (binary m all)) 8 1 a (2 ^ m - 2) → r ≡ power (times m) 8 1 a (2 ^ m - 2)
+  inverse-answered all a r h e =
       let four : 4 ≤ 2 ^ m = four-elements in
-      let value : r ≡ power (times m) 8 1 a (2 ^ m - 2) = e ∙ power-agrees (times m) (productOf (binary m all)) (2 ^ m) closed (λ x y p q. grind (arith, tells)) 8 1 a (2 ^ m - 2) (omega arith) h in
-      ap {B = Option ℕ} Some value ∙ grind (arith, tells)
+      e ∙ power-agrees (times m) (productOf (binary m all)) (2 ^ m) closed (λ x y p q. grind (arith, tells)) 8 1 a (2 ^ m - 2) (omega arith) h

@@ -39,19 +39,19 @@ inverse-right : ℕ → ℕ → Bool
 inverse-right m a = either (eqb a 0) (eqb (times m a (power (times m) 8 1 a (2 ^ m - 2))) 1)
 
 ones-right : T (each (λ m. below (one-right m) m) degrees)
-unfolding each below one-right times carryless remainder moduli degrees
+unfolding each below one-right times carryless remainder degrees
 ones-right = tt
 
 pairs-right : T (each (λ m. below (λ i. below (pair-right m i) m) m) degrees)
-unfolding each below pair-right times carryless remainder moduli degrees
+unfolding each below pair-right times carryless remainder degrees
 pairs-right = tt
 
 triples-right : T (each (λ m. below (λ i. below (λ j. below (triple-right m i j) m) m) m) degrees)
-unfolding each below triple-right times carryless remainder moduli degrees
+unfolding each below triple-right times carryless remainder degrees
 triples-right = tt
 
 inverses-right : T (each (λ m. below (inverse-right m) (2 ^ m)) degrees)
-unfolding each below inverse-right times carryless remainder moduli power degrees
+unfolding each below inverse-right times carryless remainder power degrees
 inverses-right = tt
 
 -- the modulus is not 0, has at most 9 bits, and leaves no remainder of itself
@@ -59,7 +59,7 @@ modulus-right : ℕ → Bool
 modulus-right m = both (ltb 0 (modulusOf m)) (both (ltb (modulusOf m) 512) (eqb (remainder (modulusOf m) m 8 (modulusOf m)) 0))
 
 moduli-right : T (each modulus-right degrees)
-unfolding each modulus-right remainder moduli degrees
+unfolding each modulus-right remainder degrees
 moduli-right = tt
 
 module _ (m : ℕ) (low : 2 ≤ m) (high : m ≤ 8) where

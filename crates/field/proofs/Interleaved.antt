@@ -52,7 +52,7 @@ horner-right-at : ℕ → ℕ → ℕ → Bool
 horner-right-at m i j = eqb (horner m m (2 ^ i) (2 ^ j)) (times m (2 ^ i) (2 ^ j))
 
 basis-right : T (each (λ m. below (λ i. below (horner-right-at m i) m) m) degrees)
-unfolding each below horner-right-at horner doubled times carryless remainder moduli degrees
+unfolding each below horner-right-at horner doubled times carryless remainder degrees
 basis-right = tt
 
 -- twice an element, reduced, is an element
@@ -60,7 +60,7 @@ double-small : ℕ → ℕ → Bool
 double-small m i = ltb (doubled (modulusOf m) m (2 ^ i)) (2 ^ m)
 
 doubles-small : T (each (λ m. below (double-small m) m) degrees)
-unfolding each below double-small doubled moduli degrees
+unfolding each below double-small doubled degrees
 doubles-small = tt
 
 module _ (m : ℕ) (low : 2 ≤ m) (high : m ≤ 8) where

@@ -1,7 +1,8 @@
 -- Polynomials over two elements, their bits the coefficients, lowest first, modulo a polynomial of degree m.
 use mathlib.Core.Bool.{Bool, cond}
 use mathlib.Core.List.{List, [], _∷_}
-use Prim.Native.Nat.{ℕ, zero, suc, _+_, _-_, _*_, _/_, _%_, _^_}
+use mathlib.Core.Path.{_≡_}
+use Prim.Native.Nat.{ℕ, zero, suc, _+_, _-_, _*_, _/_, _%_, _^_, _<_}
 use lib.Bits.{bitXor}
 use lib.ListN.{getD}
 use Rattle.field.specs.Meaning.{Meaning}
@@ -18,12 +19,16 @@ remainder modulus m zero x = x
 remainder modulus m (suc k) x = remainder modulus m k (bitXor x (x / 2 ^ (m + k) % 2 * (modulus * 2 ^ k)))
 
 -- the moduli for the degrees 2 to 8
-unfoldable pub moduli : List ℕ
+abbrev pub moduli : List ℕ
 moduli = 7 ∷ 11 ∷ 19 ∷ 37 ∷ 67 ∷ 131 ∷ 285 ∷ []
 
 -- the modulus for degree m
 abbrev pub modulusOf : ℕ → ℕ
 modulusOf m = getD moduli (m - 2) 0
+
+-- the polynomial is no product of two polynomials of degree below m
+abbrev pub Irreducible : ℕ → ℕ → Type 0
+Irreducible m polynomial = (a b : ℕ) → a < 2 ^ m → b < 2 ^ m → carryless 8 a b ≡ polynomial → ⊥
 
 -- the product modulo the modulus for degree m: the remainder of the product of the polynomials
 unfoldable pub times : ℕ → ℕ → ℕ → ℕ

@@ -4,7 +4,7 @@ ghost use Prim.Native.Nat.{ℕ, _<_};
 ghost use Rattle.field.specs.Powers.{power};
 
 // A product of 16-bit numbers.
-pub trait Product {
+pub(crate) trait Product {
     ghost times: { Self → ℕ → ℕ → ℕ };
 
     fn times(&self, a: u16, b: u16) -> u16
@@ -12,7 +12,7 @@ pub trait Product {
 }
 
 // The power e of a, for an exponent of at most 8 bits.
-pub fn raise<P: Product>(product: &P, a: u16, exponent: u16) -> u16
+pub(crate) fn raise<P: Product>(product: &P, a: u16, exponent: u16) -> u16
     ensures { λ r. ⌜ r ≡ power (times (now (product .entry))) 8 1 a exponent ⌝ }
 {
     let mut result = 1;

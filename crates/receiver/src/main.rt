@@ -1,8 +1,9 @@
 // The receiver's console: reads commands from standard input, one a line, and prints what the library answers.
+use command::passed_over;
+use command::run_line;
 use console::Console;
 use console::answer::AnswerDisplay;
 use console::answer::TroubleDisplay;
-use console::passed_over;
 use std::io;
 use std::io::BufRead;
 use std::io::BufReader;
@@ -13,7 +14,7 @@ fn carry_out(rt: &LibcRuntime, console: &mut Console, number: u64, line: &str) -
     if passed_over(&words) {
         return Ok(());
     }
-    match console.run(rt.alloc(), &words) {
+    match run_line(console, rt.alloc(), &words) {
         Ok(answer) => println!(rt, "{answer}"),
         Err(trouble) => println!(rt, "error {number} {trouble}"),
     }

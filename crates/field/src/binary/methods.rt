@@ -6,8 +6,11 @@ ghost use lib.Dec.{ltb};
 ghost use Rattle.std.specs.Results.{errPart};
 ghost use Rattle.std.specs.Vec.{made};
 ghost use Rattle.fault.specs.First.{Judged};
-ghost use Rattle.field.specs.Binary.{binary, carryless, doubled, modulusOf, times as timesModulo};
+ghost use Rattle.field.specs.Binary.{binary, doubled, modulusOf, Irreducible, times as timesModulo};
 ghost use Rattle.field.specs.Faults.{refusalOf, BinaryFails};
+ghost use Rattle.field.specs.declared.fault.FieldFault.the-variants.{Degree};
+ghost use Rattle.std.specs.Options.{Cases as BySome};
+ghost use Rattle.std.specs.declared.option.Option.the-variants.{None, Some};
 ghost use Rattle.field.specs.Meaning.{productOf};
 use crate::Field;
 use crate::FieldFault;
@@ -17,6 +20,13 @@ use crate::power::raise;
 
 // The moduli for the degrees 2 to 8.
 const MODULI: [u16; 7] = [7, 11, 19, 37, 67, 131, 285];
+
+// The number as a degree, if it is one of 2 to 8.
+fn degree_of(m: usize) -> Option<u8>
+    ensures { λ r. ⌜ BySome r (Judged refusalOf (BinaryFails m) (Some Degree)) (λ d. (d ≡ m) × Judged refusalOf (BinaryFails m) None × (2 ≤ d) × (d ≤ 8)) ⌝ }
+{
+    if m < 2 || m > 8 { None } else { Some(m as u8) }
+}
 
 // Twice a, that is a times x, reduced once.
 fn double(a: u16, degree: u16, modulus: u16) -> u16
@@ -52,12 +62,12 @@ impl BinaryField {
         ensures judged { λ r. ⌜ Judged refusalOf (BinaryFails m) (errPart r) ⌝ }
         ensures made { λ r. ⌜ made r (λ f. (f .m ≡ m) × (f .all ≡ all)) ⌝ }
     {
-        if m < 2 || m > 8 {
+        let Some(m) = degree_of(m) else {
             return Err(FieldFault::Degree);
-        }
+        };
         Ok(BinaryField {
-            m: m as u8,
-            polynomial: MODULI[m - 2],
+            m,
+            polynomial: MODULI[usize::from(m) - 2],
             all,
         })
     }
@@ -68,13 +78,16 @@ impl BinaryField {
         u16::from(self.m)
     }
 
-    // The modulus, which is no product of two polynomials of lower degree.
     pub fn modulus(&self) -> u16
-        ensures value { λ r. ⌜ r ≡ modulusOf (now (self .entry) .m) ⌝ }
-        ensures irreducible { λ r. ⌜ ((a b : ℕ) → a < 2 ^ (now (self .entry) .m) → b < 2 ^ (now (self .entry) .m) → carryless 8 a b ≡ r → ⊥) ⌝ }
+        ensures { λ r. ⌜ r ≡ modulusOf (now (self .entry) .m) ⌝ }
     {
         self.polynomial
     }
+
+    // The modulus is no product of two polynomials of lower degree. It computes nothing: its promise is the theorem.
+    pub fn modulus_is_irreducible(&self)
+        ensures { λ _. ⌜ Irreducible (now (self .entry) .m) (modulusOf (now (self .entry) .m)) ⌝ }
+    {}
 
     // The number of elements.
     fn order(&self) -> u16
@@ -94,6 +107,16 @@ impl Product for BinaryField as BinaryProduct {
         } else {
             0
         }
+    }
+}
+
+impl BinaryField {
+    // The inverse of an element other than 0.
+    fn reciprocal(&self, a: u16) -> u16
+        requires { ⌜ 0 < a ⌝ ∗ ⌜ a < 2 ^ (now self .m) ⌝ }
+        ensures { λ r. ⌜ r ≡ binary (now (self .entry) .m) (now (self .entry) .all) .inverse a ⌝ }
+    {
+        raise(self, a, self.order() - 2)
     }
 }
 
@@ -124,7 +147,7 @@ pub impl Field for BinaryField as BinaryArithmetic {
     fn inverse(&self, a: u16) -> Option<u16> {
         let size = self.order();
         if 0 < a && a < size {
-            Some(raise(self, a, size - 2))
+            Some(self.reciprocal(a))
         } else {
             None
         }

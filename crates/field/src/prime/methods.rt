@@ -6,6 +6,8 @@ ghost use Rattle.std.specs.Results.{errPart};
 ghost use Rattle.std.specs.Vec.{made};
 ghost use Rattle.fault.specs.First.{Judged};
 ghost use Rattle.field.specs.Faults.{refusalOf, PrimeFails};
+ghost use Rattle.field.specs.declared.fault.FieldFault.the-variants.{Characteristic};
+ghost use Rattle.std.specs.declared.option.Option.the-variants.{None, Some};
 ghost use Rattle.field.specs.Modular.{Prime, modular, times as timesModulo};
 use crate::Field;
 use crate::FieldFault;
@@ -72,7 +74,7 @@ const PRIMES: [u8; 53] = [
 
 // The entry of the table that equals p.
 fn entry(p: usize) -> Option<u8>
-    ensures { λ r. ⌜ BySome r ((3 ≤ p) × (p ≤ 251) × Prime p → ⊥) (λ q. (q ≡ p) × (3 ≤ q) × (q ≤ 251) × Prime q) ⌝ }
+    ensures { λ r. ⌜ BySome r (Judged refusalOf (PrimeFails p) (Some Characteristic)) (λ q. (q ≡ p) × Judged refusalOf (PrimeFails p) None × (3 ≤ q) × (q ≤ 251) × Prime q) ⌝ }
 {
     for q in PRIMES {
         if usize::from(q) == p {

@@ -3,6 +3,7 @@ use Prim.Native.Nat.{ℕ, _≤_}
 use native.Mathlib.Omega.{arith}
 use borrow.Author.Count.{below-more}
 use Rattle.field.specs.Modular.{Prime}
+use Rattle.field.proofs.Judging.{prime-made, prime-refused}
 use Rattle.field.proofs.PrimeTable.{primes, found-at, listed-whole, not-found}
 use Rattle.field.proofs.prime.methods.entry.Needs as need
 
@@ -17,8 +18,8 @@ returns-then-from-p c =
     let q = found-at (c .loop-q .q-index) _ (c .loop-q-test .taken) e in
     let whole = listed-whole _ q in
     let at = subst (λ (x : ℕ). (3 ≤ x) × (x ≤ 251) × Prime x) (sym e) whole in
-    (e, at .0, at .1, at .2)
+    (e, prime-made (c .args .p) whole, at .0, at .1, at .2)
 
 pub returns : need.returns
 unfolding primes
-returns c = not-found (c .args .p) (λ k h. c .loop-q .inv k (omega arith))
+returns c = prime-refused (c .args .p) (not-found (c .args .p) (λ k h. c .loop-q .inv k (omega arith)))

@@ -1,0 +1,4 @@
+pub mod Numbers
+pub mod PlanLines
+pub mod Verbs
+pub mod WordTests
