@@ -1,5 +1,5 @@
 -- A polynomial f that agrees enough with the places at which Q vanishes is a root: Q(x, f(x)) = 0.
-use mathlib.Core.Path.{_≡_}
+use mathlib.Core.Path.{_≡_, sym, _∙_, ap}
 use mathlib.Core.List.{List, [], _∷_}
 use Prim.Native.Nat.{ℕ, suc, _≤_}
 use Rattle.algebra.specs.Ring.{CommRing, Field}
@@ -8,7 +8,7 @@ use Rattle.algebra.specs.Degree.{Below}
 use Rattle.algebra.specs.Evaluation.{eval}
 use Rattle.algebra.specs.Order.{Orders, Differs, Distinct, total}
 use Rattle.algebra.specs.Bivariate.{Bivariate, Weighted, substitute}
-use Rattle.algebra.specs.Places.{Place, orders-of, Multiplicities, Through, met, agreement}
+use Rattle.algebra.specs.Places.{Place, orders-of, Elsewhere, DistinctPoints, Multiplicities, Through, met, agreement}
 use Rattle.algebra.proofs.Bivariate.{below-substitute}
 use Rattle.algebra.proofs.Multiplicity.{order-substitute}
 use Rattle.algebra.proofs.Zeros.{zero-by-orders}
@@ -77,18 +77,23 @@ module _ {K : Type 0} (F : Field K) where
         go (yes _) t = (m .0, t)
         go (no _) t = t
 
-    differs-met : (a : K) (ps : List (Place K)) → Differs a (orders-of ps) → Differs a (orders-of (met F d f ps))
-    differs-met a [] h = tt
-    differs-met a (p ∷ ps) h =
-        go (F .decide (eval R d f (p .abscissa)) (p .ordinate)) (differs-met a ps (h .1))
+    -- a place that f goes through has another abscissa than the other places that it goes through
+    differs-met : (p : Place K) (ps : List (Place K))
+        → eval R d f (p .abscissa) ≡ p .ordinate
+        → Elsewhere p ps
+        → Differs (p .abscissa) (orders-of (met F d f ps))
+    differs-met p [] e h = tt
+    differs-met p (q ∷ ps) e h =
+        go (F .decide (eval R d f (q .abscissa)) (q .ordinate)) (differs-met p ps e (h .1))
       where
-        go : (c : Dec (eval R d f (p .abscissa) ≡ p .ordinate))
-            → Differs a (orders-of (met F d f ps))
-            → Differs a (orders-of (picked p ps c))
-        go (yes _) t = (h .0, t)
+        go : (c : Dec (eval R d f (q .abscissa) ≡ q .ordinate))
+            → Differs (p .abscissa) (orders-of (met F d f ps))
+            → Differs (p .abscissa) (orders-of (picked q ps c))
+        go (yes e′) t = (λ x. h .0 x (sym e ∙ ap (eval R d f) x ∙ e′), t)
         go (no _) t = t
 
-    distinct-met : (ps : List (Place K)) → Distinct (orders-of ps) → Distinct (orders-of (met F d f ps))
+    -- the places that f goes through have distinct abscissae
+    distinct-met : (ps : List (Place K)) → DistinctPoints ps → Distinct (orders-of (met F d f ps))
     distinct-met [] h = tt
     distinct-met (p ∷ ps) h =
         go (F .decide (eval R d f (p .abscissa)) (p .ordinate)) (distinct-met ps (h .1))
@@ -96,12 +101,12 @@ module _ {K : Type 0} (F : Field K) where
         go : (c : Dec (eval R d f (p .abscissa) ≡ p .ordinate))
             → Distinct (orders-of (met F d f ps))
             → Distinct (orders-of (picked p ps c))
-        go (yes _) t = (differs-met (p .abscissa) ps (h .0), t)
+        go (yes e) t = (differs-met p ps e (h .0), t)
         go (no _) t = t
 
   -- every f of degree at most s whose agreement with the places is D or more is a root
   pub complete : (ps : List (Place K)) (l s D : ℕ) (Q : Bivariate K) (f : Series K)
-      → Distinct (orders-of ps)
+      → DistinctPoints ps
       → Weighted R s D Q
       → Multiplicities R D l Q ps
       → Below R (suc s) f
@@ -121,3 +126,13 @@ module _ {K : Type 0} (F : Field K) where
       (multiplicities-met (suc s) f ps D l Q m)
       (through-met (suc s) f ps)
       k
+
+-- places with distinct abscissae stand at distinct points
+module _ {K : Type 0} where
+  elsewhere-of-differs : (p : Place K) (ps : List (Place K)) → Differs (p .abscissa) (orders-of ps) → Elsewhere p ps
+  elsewhere-of-differs p [] h = tt
+  elsewhere-of-differs p (q ∷ ps) h = (λ x y. h .0 x, elsewhere-of-differs p ps (h .1))
+
+  pub distinct-by-abscissae : (ps : List (Place K)) → Distinct (orders-of ps) → DistinctPoints ps
+  distinct-by-abscissae [] h = tt
+  distinct-by-abscissae (p ∷ ps) h = (elsewhere-of-differs p ps (h .0), distinct-by-abscissae ps (h .1))

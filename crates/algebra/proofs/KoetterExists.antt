@@ -5,10 +5,10 @@ use Prim.Native.Nat.{ℕ, zero, suc, _+_, _*_, _≤_, _<_}
 use native.Mathlib.Omega.{arith}
 use native.Mathlib.Decide.{decLt, ℕ-discrete}
 use Rattle.algebra.specs.Ring.{CommRing, Field}
-use Rattle.algebra.specs.Bivariate.{Bivariate}
+use Rattle.algebra.specs.Bivariate.{Bivariate, y-power}
 use Rattle.algebra.specs.Places.{Place}
 use Rattle.algebra.specs.Conditions.{conditions-of, triangle, condition-count}
-use Rattle.algebra.specs.Koetter.{State, Live, y-power, Start, Steps, Invariant, Least, Interpolates}
+use Rattle.algebra.specs.Koetter.{State, Live, Start, Steps, Invariant, Least, Interpolates}
 use Rattle.algebra.proofs.KoetterLive.{run-invariant, places-live-row}
 use Rattle.algebra.proofs.KoetterDegree.{run-least, live-degree, least-degree}
 use Rattle.algebra.proofs.KoetterPivot.{steps-exist}

@@ -7,9 +7,8 @@ use Rattle.algebra.specs.Series.{tail, constant, x-minus, series}
 use Rattle.algebra.specs.Coefficients.{zero-at, one-constant, add-at, constant-mul-at}
 use Rattle.algebra.specs.Linear.{x-minus-mul-at-zero, x-minus-mul-at-suc}
 use Rattle.algebra.specs.Evaluation.{taylor}
-use Rattle.algebra.specs.Bivariate.{Bivariate, scale}
+use Rattle.algebra.specs.Bivariate.{Bivariate, scale, y-power}
 use Rattle.algebra.specs.Conditions.{Condition, discrepancy}
-use Rattle.algebra.specs.Koetter.{y-power}
 use Rattle.algebra.proofs.Taylor.{taylor-suc-at-zero, taylor-suc-at-suc}
 use Rattle.algebra.proofs.KoetterStart.{y-power-self, y-power-other}
 

@@ -6,10 +6,12 @@ use native.Mathlib.Omega.{arith}
 use native.Mathlib.Decide.{ℕ-discrete}
 use Rattle.algebra.specs.Ring.{CommRing, Field}
 use Rattle.algebra.specs.Series.{series}
-use Rattle.algebra.specs.Coefficients.{zero-at, one-constant, constant-at-zero, constant-at-suc, shift-at-zero, shift-at-suc}
+use Rattle.algebra.specs.Coefficients.{zero-at, one-constant, constant-at-zero, constant-at-suc}
+use Rattle.algebra.specs.Linear.{X-mul-at-zero, X-mul-at-suc}
 use Rattle.algebra.specs.Degree.{Below}
 use Rattle.algebra.specs.Conditions.{triangle}
-use Rattle.algebra.specs.Koetter.{State, AtMost, Head, y-power, Start, degree-sum, Invariant, Least}
+use Rattle.algebra.specs.Koetter.{State, AtMost, Head, Start, degree-sum, Invariant, Least}
+use Rattle.algebra.specs.Bivariate.{y-power}
 use Rattle.algebra.proofs.Degree.{below-one}
 use Rattle.algebra.proofs.Head.{head-narrow}
 use Rattle.algebra.proofs.DegreeSum.{degree-sum-start}
@@ -17,14 +19,14 @@ use Rattle.algebra.proofs.DegreeSum.{degree-sum-start}
 module _ {K : Type 0} (R : CommRing K) where
   -- the coefficient of y^c in y^j
   pub y-power-self : (j : ℕ) → y-power R j j ≡ series R .one
-  y-power-self zero = constant-at-zero (series R) (series R .one)
-  y-power-self (suc j) = shift-at-suc (series R) (y-power R j) j ∙ y-power-self j
+  y-power-self zero = ap (λ f. f 0) (one-constant (series R)) ∙ constant-at-zero (series R) (series R .one)
+  y-power-self (suc j) = X-mul-at-suc (series R) (y-power R j) j ∙ y-power-self j
 
   pub y-power-other : (j c : ℕ) → (c ≡ j → ⊥) → y-power R j c ≡ series R .zero
   y-power-other zero zero h = absurd (h refl)
-  y-power-other zero (suc c) h = constant-at-suc (series R) (series R .one) c
-  y-power-other (suc j) zero h = shift-at-zero (series R) (y-power R j)
-  y-power-other (suc j) (suc c) h = shift-at-suc (series R) (y-power R j) c ∙ y-power-other j c (λ e. h (ap suc e))
+  y-power-other zero (suc c) h = ap (λ f. f (suc c)) (one-constant (series R)) ∙ constant-at-suc (series R) (series R .one) c
+  y-power-other (suc j) zero h = X-mul-at-zero (series R) (y-power R j)
+  y-power-other (suc j) (suc c) h = X-mul-at-suc (series R) (y-power R j) c ∙ y-power-other j c (λ e. h (ap suc e))
 
 module _ {K : Type 0} (F : Field K) where
   abbrev R : CommRing K

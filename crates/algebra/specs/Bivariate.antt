@@ -2,7 +2,8 @@
 use mathlib.Core.Path.{_≡_}
 use Prim.Native.Nat.{ℕ, _+_, _*_, _≤_, _<_}
 use Rattle.algebra.specs.Ring.{CommRing}
-use Rattle.algebra.specs.Series.{Series, constant, series}
+use Rattle.algebra.specs.Series.{Series, constant, X, series}
+use Rattle.algebra.specs.Sum.{power}
 use Rattle.algebra.specs.Evaluation.{eval, taylor}
 
 -- a polynomial in x and y: Q c i is the coefficient of x^i y^c
@@ -28,3 +29,7 @@ local-expansion R d l Q a b = taylor (series R) l (λ c. taylor R d (Q c) a) (co
 -- Q vanishes at the point (a, b) with multiplicity m: in Q(a + x, b + y) the coefficient of x^r y^u is zero wherever u + r is below m
 abbrev pub Multiplicity : {K : Type 0} → CommRing K → K → K → ℕ → ℕ → ℕ → Bivariate K → Type 0
 Multiplicity R a b m d l Q = (u r : ℕ) → u + r < m → local-expansion R d l Q a b u r ≡ R .zero
+
+-- the power y^i
+abbrev pub y-power : {K : Type 0} → CommRing K → ℕ → Bivariate K
+y-power R i = power (series (series R)) (X (series R)) i

@@ -5,9 +5,9 @@ use mathlib.Core.Logic.{_⊎_}
 use lib.ListN.{length}
 use Prim.Native.Nat.{ℕ, zero, suc, _+_, _*_, _-_, _≤_, _<_}
 use Rattle.algebra.specs.Ring.{CommRing, Field, sub}
-use Rattle.algebra.specs.Series.{constant, shift, x-minus, series}
+use Rattle.algebra.specs.Series.{constant, x-minus, series}
 use Rattle.algebra.specs.Degree.{Below}
-use Rattle.algebra.specs.Bivariate.{Bivariate, Weighted, scale}
+use Rattle.algebra.specs.Bivariate.{Bivariate, Weighted, scale, y-power}
 use Rattle.algebra.specs.Places.{Place, Multiplicities}
 use Rattle.algebra.specs.Conditions.{Condition, discrepancy, MeetsAll, triangle}
 
@@ -33,11 +33,6 @@ pub record Head {K : Type 0} (R : CommRing K) (s e j : ℕ) (Q : Bivariate K) : 
   pub fits : s * j ≤ e
   pub leads : Q j (e - s * j) ≡ R .zero → ⊥
   pub rest : Before R s e (suc j) Q
-
--- the polynomial y^j
-abbrev pub y-power : {K : Type 0} → CommRing K → ℕ → Bivariate K
-y-power R zero = constant (series R) (series R .one)
-y-power R (suc j) = shift (series R) (y-power R j)
 
 -- at the start live row j is y^j, and the degree of each row is that of y^j
 pub record Start {K : Type 0} (R : CommRing K) (s D l : ℕ) (st : State K) : Type 0 where

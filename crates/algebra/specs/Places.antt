@@ -19,6 +19,16 @@ abbrev pub orders-of : {K : Type 0} → List (Place K) → List (K × ℕ)
 orders-of [] = []
 orders-of (p ∷ ps) = (p .abscissa, p .multiplicity) ∷ orders-of ps
 
+-- the place p stands at another point than each place of the list: another abscissa or another ordinate
+abbrev pub Elsewhere : {K : Type 0} → Place K → List (Place K) → Type 0
+Elsewhere p [] = Unit {0}
+Elsewhere p (q ∷ ps) = (p .abscissa ≡ q .abscissa → p .ordinate ≡ q .ordinate → ⊥) × Elsewhere p ps
+
+-- the points of the places are pairwise distinct; several may share an abscissa
+abbrev pub DistinctPoints : {K : Type 0} → List (Place K) → Type 0
+DistinctPoints [] = Unit {0}
+DistinctPoints (p ∷ ps) = Elsewhere p ps × DistinctPoints ps
+
 -- Q, of degree below d in x and below l in y, vanishes at each place with its multiplicity
 abbrev pub Multiplicities : {K : Type 0} → CommRing K → ℕ → ℕ → Bivariate K → List (Place K) → Type 0
 Multiplicities R d l Q [] = Unit {0}
