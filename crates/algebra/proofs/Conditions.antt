@@ -4,37 +4,22 @@ use mathlib.Core.List.{List, [], _∷_, _++_, append-nil, append-assoc}
 use mathlib.Core.Logic.{_⊎_, inl, inr}
 use Prim.Native.Nat.{ℕ, zero, suc, _+_}
 use native.Mathlib.Omega.{arith}
-use Rattle.algebra.specs.Conditions.{Condition, Among, at-power, Prepared, Follows, WellOrdered}
+use Rattle.algebra.proofs.ListMembers.{member-left, member-right, member-append}
+use Rattle.algebra.specs.Members.{Member}
+use Rattle.algebra.specs.Conditions.{Condition, at-power, Prepared, Follows, WellOrdered}
 
 module _ {K : Type 0} where
-  pub among-left : (c : Condition K) (xs ys : List (Condition K)) → Among c xs → Among c (xs ++ ys)
-  among-left c [] ys m = absurd m
-  among-left c (x ∷ xs) ys (inl e) = inl e
-  among-left c (x ∷ xs) ys (inr m) = inr (among-left c xs ys m)
-
-  pub among-right : (c : Condition K) (xs ys : List (Condition K)) → Among c ys → Among c (xs ++ ys)
-  among-right c [] ys m = m
-  among-right c (x ∷ xs) ys m = inr (among-right c xs ys m)
-
-  pub among-split : (c : Condition K) (xs ys : List (Condition K)) → Among c (xs ++ ys) → Among c xs ⊎ Among c ys
-  among-split c [] ys m = inr m
-  among-split c (x ∷ xs) ys (inl e) = inl (inl e)
-  among-split c (x ∷ xs) ys (inr m) = elim (among-split c xs ys m) [ inl h ↦ inl (inr h) | inr h ↦ inr h ]
-
-  pub among-last : (c : Condition K) (xs : List (Condition K)) → Among c (xs ++ (c ∷ []))
-  among-last c xs = among-right c xs (c ∷ []) (inl refl)
-
   -- with each condition the list has the one at the next lower power of x
   abbrev pub Closed : List (Condition K) → Type 0
-  Closed cs = (c : Condition K) → Among c cs → Prepared cs c
+  Closed cs = (c : Condition K) → Member c cs → Prepared cs c
 
   prepared-left : (c : Condition K) (xs ys : List (Condition K)) → Prepared xs c → Prepared (xs ++ ys) c
-  prepared-left c xs ys h r e = among-left (at-power c r) xs ys (h r e)
+  prepared-left c xs ys h r e = member-left (at-power c r) xs ys (h r e)
 
   pub closed-last : (c : Condition K) (cs : List (Condition K)) → Closed cs → Prepared cs c → Closed (cs ++ (c ∷ []))
-  closed-last c cs h k x m = go (among-split x cs (c ∷ []) m)
+  closed-last c cs h k x m = go (member-append x cs (c ∷ []) m)
     where
-      go : Among x cs ⊎ Among x (c ∷ []) → Prepared (cs ++ (c ∷ [])) x
+      go : Member x cs ⊎ Member x (c ∷ []) → Prepared (cs ++ (c ∷ [])) x
       go (inl n) = prepared-left x cs (c ∷ []) (h x n)
       go (inr (inl e)) = subst (Prepared (cs ++ (c ∷ []))) (sym e) (prepared-left c cs (c ∷ []) k)
       go (inr (inr n)) = absurd n
@@ -54,12 +39,12 @@ module _ {K : Type 0} where
   -- in a closed list stand all lower powers of x
   pub closed-below : (cs : List (Condition K)) (c : Condition K) (r n : ℕ)
       → Closed cs
-      → Among c cs
+      → Member c cs
       → r + n ≡ c .exponent-x
-      → Among (at-power c r) cs
+      → Member (at-power c r) cs
   closed-below cs c r zero h m e =
       let q : c .exponent-x ≡ r = omega arith in
-      subst (λ k. Among (at-power c k) cs) q m
+      subst (λ k. Member (at-power c k) cs) q m
   closed-below cs c r (suc n) h m e =
       let q : c .exponent-x ≡ suc (r + n) = omega arith in
       closed-below cs (at-power c (r + n)) r n h (h c m (r + n) q) refl

@@ -4,19 +4,19 @@ use mathlib.Core.List.{List, [], _∷_, _++_}
 use mathlib.Core.Logic.{inl, inr}
 use Prim.Native.Nat.{ℕ, zero, suc, _<_, _-_}
 use native.Mathlib.Omega.{arith}
+use Rattle.algebra.proofs.ListMembers.{member-append, member-left, member-right}
 use Rattle.algebra.specs.Ring.{CommRing}
 use Rattle.algebra.specs.Bivariate.{Bivariate, Multiplicity}
 use Rattle.algebra.specs.Places.{Place, Multiplicities}
 use Rattle.algebra.specs.Conditions.{Condition, condition, Meets, MeetsAll, column, columns, conditions-of}
-use Rattle.algebra.proofs.Conditions.{among-left, among-right, among-split}
-use Rattle.algebra.proofs.PlaceConditions.{among-columns}
+use Rattle.algebra.proofs.PlaceConditions.{member-columns}
 
 module _ {K : Type 0} (R : CommRing K) where
   pub meets-append : (d l : ℕ) (Q : Bivariate K) (xs ys : List (Condition K))
       → MeetsAll R d l Q xs
       → MeetsAll R d l Q ys
       → MeetsAll R d l Q (xs ++ ys)
-  meets-append d l Q xs ys h k c m = elim (among-split c xs ys m) [ inl i ↦ h c i | inr i ↦ k c i ]
+  meets-append d l Q xs ys h k c m = elim (member-append c xs ys m) [ inl i ↦ h c i | inr i ↦ k c i ]
 
   pub meets-one : (d l : ℕ) (Q : Bivariate K) (c : Condition K) → Meets R d l Q c → MeetsAll R d l Q (c ∷ [])
   meets-one d l Q c h x (inl e) = subst (Meets R d l Q) (sym e) h
@@ -75,10 +75,10 @@ module _ {K : Type 0} (R : CommRing K) where
         λ u r k.
             h
             (condition (p .abscissa) (p .ordinate) u r)
-            (among-left
+            (member-left
             (condition (p .abscissa) (p .ordinate) u r)
             cs
             (conditions-of ps)
-            (among-columns (p .abscissa) (p .ordinate) m m u r (omega arith) k)),
-        meet-multiplicities d l Q ps (λ c i. h c (among-right c cs (conditions-of ps) i)),
+            (member-columns (p .abscissa) (p .ordinate) m m u r (omega arith) k)),
+        meet-multiplicities d l Q ps (λ c i. h c (member-right c cs (conditions-of ps) i)),
       )

@@ -5,6 +5,7 @@ use lib.ListN.{length, getD}
 use Prim.Native.Nat.{ℕ, _≤_, _<_}
 use native.Mathlib.Omega.{arith}
 use native.Mathlib.Decide.{decLt}
+use Rattle.algebra.specs.Members.{Member, NoRepetition}
 use Rattle.algebra.specs.Ring.{CommRing, Field, no-zero-divisors}
 use Rattle.algebra.specs.Series.{Series, series}
 use Rattle.algebra.specs.Coefficients.{zero-at}
@@ -12,7 +13,6 @@ use Rattle.algebra.specs.Degree.{Below}
 use Rattle.algebra.specs.Bivariate.{Bivariate}
 use Rattle.algebra.specs.Interpolation.{Separate}
 use Rattle.algebra.specs.RootSearch.{Nonzero, Root, Vanish, at-zero, Candidate}
-use Rattle.algebra.specs.RootList.{Member, NoRepetition}
 use Rattle.algebra.proofs.Roots.{zero-by-values, series-domain}
 use Rattle.algebra.proofs.ListMembers.{member-at, separate-members}
 

@@ -5,6 +5,7 @@ use mathlib.Core.Logic.{inl, inr}
 use Prim.Native.Nat.{ℕ, suc, _≤_, _<_}
 use native.Mathlib.Omega.{arith}
 use native.Mathlib.Decide.{ℕ-discrete}
+use Rattle.algebra.proofs.ListMembers.{member-last, member-left}
 use Rattle.algebra.specs.Ring.{CommRing, Field, mul-nonzero, inv-nonzero}
 use Rattle.algebra.specs.Solver.{ring1, :0, _:-_, :-_, _:≡_}
 use Rattle.algebra.specs.Series.{series}
@@ -12,7 +13,7 @@ use Rattle.algebra.specs.Degree.{Below}
 use Rattle.algebra.specs.Bivariate.{Bivariate}
 use Rattle.algebra.specs.Conditions.{Condition, discrepancy, Meets, MeetsAll, WellOrdered}
 use Rattle.algebra.specs.Koetter.{State, Head, less, Kept, Pivoted, Step, Steps, Invariant, Least}
-use Rattle.algebra.proofs.Conditions.{among-left, among-last, well-ordered-closed, follows-left}
+use Rattle.algebra.proofs.Conditions.{well-ordered-closed, follows-left}
 use Rattle.algebra.proofs.ConditionMultiples.{meets-less, discrepancy-less}
 use Rattle.algebra.proofs.Head.{head-narrow, narrow-less}
 use Rattle.algebra.proofs.KoetterRow.{Sound, sound-row, sound-below}
@@ -39,7 +40,7 @@ module _ {K : Type 0} (F : Field K) where
   pivoted-least s D l cs c st st′ p w k inv lst = record { bound = λ P e j h b t m. bound P e j h b t m (ℕ-discrete j p) }
     where
       earlier : (P : Bivariate K) → MeetsAll R D l P (cs ++ (c ∷ [])) → MeetsAll R D l P cs
-      earlier P m d i = m d (among-left d cs (c ∷ []) i)
+      earlier P m d i = m d (member-left d cs (c ∷ []) i)
 
       pivot : Sound F s D l cs (st .degrees p) p (st .rows p)
       pivot = sound-row F s D l cs st inv p (k .live)
@@ -61,7 +62,7 @@ module _ {K : Type 0} (F : Field K) where
           (mul-nonzero F _ _ (t .leads) (inv-nonzero F _ (pivot .head .leads)))
           (k .fails)
           (ring1 R (λ y. y :≡ :- (:0 :- y)) tt _
-          ∙ ap (λ z. - (z + - (x * discrepancy R D l (st .rows p) c))) (sym (m c (among-last c cs)))
+          ∙ ap (λ z. - (z + - (x * discrepancy R D l (st .rows p) c))) (sym (m c (member-last c cs)))
           ∙ ap -_ (sym (discrepancy-less R D l P x (st .rows p) c below) ∙ met)
           ∙ ring1 R (λ y. :- :0 :≡ :0) tt 𝟘)
         where
@@ -124,7 +125,7 @@ module _ {K : Type 0} (F : Field K) where
       record {
         bound = λ P e j h b t m.
             let q : st′ .degrees j ≡ st .degrees j = k .degree j (head-narrow R s l e j P b t) in
-            let i : st .degrees j ≤ e = lst .bound P e j h b t (λ d n. m d (among-left d cs (c ∷ []) n)) in
+            let i : st .degrees j ≤ e = lst .bound P e j h b t (λ d n. m d (member-left d cs (c ∷ []) n)) in
             omega arith;
       }
 

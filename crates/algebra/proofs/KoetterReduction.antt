@@ -5,13 +5,14 @@ use Prim.Native.Nat.{ℕ, zero, suc, _≤_, _<_, _-_}
 use Prim.Native.Nat
 use native.Mathlib.Omega.{arith}
 use native.Mathlib.Decide.{decLe}
+use Rattle.algebra.proofs.ListMembers.{member-last, member-left}
 use Rattle.algebra.specs.Ring.{CommRing, Field}
 use Rattle.algebra.specs.Series.{series}
 use Rattle.algebra.specs.Degree.{Below}
 use Rattle.algebra.specs.Bivariate.{Bivariate}
 use Rattle.algebra.specs.Conditions.{Condition, discrepancy, Meets, MeetsAll}
 use Rattle.algebra.specs.Koetter.{State, Live, AtMost, Before, Head, less, Invariant, Least}
-use Rattle.algebra.proofs.Conditions.{Closed, among-left, among-last}
+use Rattle.algebra.proofs.Conditions.{Closed}
 use Rattle.algebra.proofs.ConditionMultiples.{meets-less}
 use Rattle.algebra.proofs.Head.{head-narrow, narrow-less}
 use Rattle.algebra.proofs.HeadSearch.{lexicographic, before-none, before-down, before-across}
@@ -85,12 +86,12 @@ module _ {K : Type 0} (F : Field K) where
             x
             (r .0)
             rows
-            (r .1 .meets c (among-last c cs))
+            (r .1 .meets c (member-last c cs))
             (ih
             (h .0, λ q. let t : suc j ≤ p = h .1 q in omega arith)
             (less R P x (r .0))
             (narrow-less R l P x (r .0) b (r .1 .narrow))
-            (meets-less R D l P x (r .0) cs rows m (λ d i. r .1 .meets d (among-left d cs (c ∷ []) i)))
+            (meets-less R D l P x (r .0) cs rows m (λ d i. r .1 .meets d (member-left d cs (c ∷ []) i)))
             (before-cancelled F s e j P (r .0) (k .rest) (r .1 .head)))
           where
             small : e < D

@@ -6,8 +6,9 @@ use lib.ListN.{length, getD}
 use Prim.Native.Nat.{ℕ, zero, suc, _≤_, _<_}
 use native.Mathlib.Omega.{arith}
 use native.Mathlib.Decide.{decLt}
+use Rattle.algebra.specs.Members.{Member, NoRepetition}
 use Rattle.algebra.specs.Interpolation.{Separate}
-use Rattle.algebra.specs.RootList.{Member, NoRepetition, branches}
+use Rattle.algebra.specs.RootList.{branches}
 
 module _ {A : Type 0} where
   pub member-left : (a : A) (xs ys : List A) → Member a xs → Member a (xs ++ ys)
@@ -18,6 +19,9 @@ module _ {A : Type 0} where
   pub member-right : (a : A) (xs ys : List A) → Member a ys → Member a (xs ++ ys)
   member-right a [] ys h = h
   member-right a (x ∷ xs) ys h = inr (member-right a xs ys h)
+
+  pub member-last : (a : A) (xs : List A) → Member a (xs ++ (a ∷ []))
+  member-last a xs = member-right a xs (a ∷ []) (inl refl)
 
   pub member-append : (a : A) (xs ys : List A) → Member a (xs ++ ys) → Member a xs ⊎ Member a ys
   member-append a [] ys h = inr h

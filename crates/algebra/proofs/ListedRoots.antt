@@ -5,6 +5,7 @@ use mathlib.Core.List.{List, [], _∷_}
 use lib.ListN.{length, getD}
 use Prim.Native.Nat.{ℕ, zero, suc}
 use native.Mathlib.Omega.{arith}
+use Rattle.algebra.specs.Members.{Member}
 use Rattle.algebra.specs.Ring.{CommRing, mul-zero}
 use Rattle.algebra.specs.Series.{Series, tail, constant, X, series}
 use Rattle.algebra.specs.Coefficients.{zero-at}
@@ -13,7 +14,7 @@ use Rattle.algebra.specs.Evaluation.{from-list}
 use Rattle.algebra.specs.Interpolation.{Separate}
 use Rattle.algebra.specs.Bivariate.{Bivariate}
 use Rattle.algebra.specs.RootSearch.{Root, next}
-use Rattle.algebra.specs.RootList.{Member, Enumerates, to-list, ListsRoots, branches}
+use Rattle.algebra.specs.RootList.{Enumerates, to-list, ListsRoots, branches}
 use Rattle.algebra.proofs.RootSteps.{root-step, root-tail}
 use Rattle.algebra.proofs.ListMembers.{member-at, separate-members, member-branches, branches-member, no-repetition-branches}
 

@@ -5,35 +5,37 @@ use mathlib.Core.Logic.{inl}
 use Prim.Native.Nat.{ℕ, zero, suc, _+_, _-_, _<_}
 use native.Mathlib.Omega.{arith}
 use native.Mathlib.Decide.{ℕ-discrete}
+use Rattle.algebra.specs.Members.{Member}
+use Rattle.algebra.proofs.ListMembers.{member-left, member-right}
 use Rattle.algebra.specs.Places.{Place}
-use Rattle.algebra.specs.Conditions.{Condition, condition, Among, Follows, WellOrdered, column, columns, conditions-of, stage}
-use Rattle.algebra.proofs.Conditions.{among-left, among-right, follows-append}
+use Rattle.algebra.specs.Conditions.{Condition, condition, Follows, WellOrdered, column, columns, conditions-of, stage}
+use Rattle.algebra.proofs.Conditions.{follows-append}
 
 module _ {K : Type 0} where
-  among-column : (a b : K) (u r n : ℕ) → r < n → Among (condition a b u r) (column a b u n)
-  among-column a b u r zero h = absurd (omega arith)
-  among-column a b u r (suc n) h = go (ℕ-discrete r n) (among-column a b u r n)
+  member-column : (a b : K) (u r n : ℕ) → r < n → Member (condition a b u r) (column a b u n)
+  member-column a b u r zero h = absurd (omega arith)
+  member-column a b u r (suc n) h = go (ℕ-discrete r n) (member-column a b u r n)
     where
       go : Dec (r ≡ n)
-          → (r < n → Among (condition a b u r) (column a b u n))
-          → Among (condition a b u r) (column a b u n ++ (condition a b u n ∷ []))
-      go (yes e) ih = among-right (condition a b u r) (column a b u n) (condition a b u n ∷ []) (inl (ap (condition a b u) e))
-      go (no k) ih = among-left (condition a b u r) (column a b u n) (condition a b u n ∷ []) (ih (omega arith))
+          → (r < n → Member (condition a b u r) (column a b u n))
+          → Member (condition a b u r) (column a b u n ++ (condition a b u n ∷ []))
+      go (yes e) ih = member-right (condition a b u r) (column a b u n) (condition a b u n ∷ []) (inl (ap (condition a b u) e))
+      go (no k) ih = member-left (condition a b u r) (column a b u n) (condition a b u n ∷ []) (ih (omega arith))
 
-  pub among-columns : (a b : K) (m u v r : ℕ) → v < u → v + r < m → Among (condition a b v r) (columns a b m u)
-  among-columns a b m zero v r h k = absurd (omega arith)
-  among-columns a b m (suc u) v r h k = go (ℕ-discrete v u) (λ i. among-columns a b m u v r i k)
+  pub member-columns : (a b : K) (m u v r : ℕ) → v < u → v + r < m → Member (condition a b v r) (columns a b m u)
+  member-columns a b m zero v r h k = absurd (omega arith)
+  member-columns a b m (suc u) v r h k = go (ℕ-discrete v u) (λ i. member-columns a b m u v r i k)
     where
       go : Dec (v ≡ u)
-          → (v < u → Among (condition a b v r) (columns a b m u))
-          → Among (condition a b v r) (columns a b m u ++ column a b u (m - u))
+          → (v < u → Member (condition a b v r) (columns a b m u))
+          → Member (condition a b v r) (columns a b m u ++ column a b u (m - u))
       go (yes e) ih =
-          among-right
+          member-right
           (condition a b v r)
           (columns a b m u)
           (column a b u (m - u))
-          (subst (λ x. Among (condition a b x r) (column a b u (m - u))) (sym e) (among-column a b u r (m - u) (omega arith)))
-      go (no i) ih = among-left (condition a b v r) (columns a b m u) (column a b u (m - u)) (ih (omega arith))
+          (subst (λ x. Member (condition a b x r) (column a b u (m - u))) (sym e) (member-column a b u r (m - u) (omega arith)))
+      go (no i) ih = member-left (condition a b v r) (columns a b m u) (column a b u (m - u)) (ih (omega arith))
 
   -- the powers of x at one power of y come in order
   pub follows-column : (ds : List (Condition K)) (a b : K) (u n : ℕ) → Follows ds (column a b u n)
@@ -44,7 +46,7 @@ module _ {K : Type 0} where
       (column a b u n)
       (condition a b u n ∷ [])
       (follows-column ds a b u n)
-      (λ r e. among-right (condition a b u r) ds (column a b u n) (among-column a b u r n (omega arith)), tt)
+      (λ r e. member-right (condition a b u r) ds (column a b u n) (member-column a b u r n (omega arith)), tt)
 
   pub follows-columns : (ds : List (Condition K)) (a b : K) (m u : ℕ) → Follows ds (columns a b m u)
   follows-columns ds a b m zero = tt

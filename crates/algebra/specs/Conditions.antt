@@ -1,8 +1,8 @@
 -- Conditions on a polynomial in x and y: that one coefficient of its expansion at a point is zero.
 use mathlib.Core.Path.{_≡_}
 use mathlib.Core.List.{List, [], _∷_, _++_}
-use mathlib.Core.Logic.{_⊎_}
 use Prim.Native.Nat.{ℕ, zero, suc, _+_, _-_}
+use Rattle.algebra.specs.Members.{Member}
 use Rattle.algebra.specs.Ring.{CommRing}
 use Rattle.algebra.specs.Bivariate.{Bivariate, local-expansion}
 use Rattle.algebra.specs.Places.{Place}
@@ -26,14 +26,9 @@ discrepancy R d l Q c = local-expansion R d l Q (c .abscissa) (c .ordinate) (c .
 abbrev pub Meets : {K : Type 0} → CommRing K → ℕ → ℕ → Bivariate K → Condition K → Type 0
 Meets R d l Q c = discrepancy R d l Q c ≡ R .zero
 
--- the condition is a member of the list
-abbrev pub Among : {K : Type 0} → Condition K → List (Condition K) → Type 0
-Among c [] = ⊥
-Among c (x ∷ xs) = (c ≡ x) ⊎ Among c xs
-
 -- Q meets each condition of the list
 abbrev pub MeetsAll : {K : Type 0} → CommRing K → ℕ → ℕ → Bivariate K → List (Condition K) → Type 0
-MeetsAll {K} R d l Q cs = (c : Condition K) → Among c cs → Meets R d l Q c
+MeetsAll {K} R d l Q cs = (c : Condition K) → Member c cs → Meets R d l Q c
 
 -- the condition at the same point and the same power of y, and at the power r of x
 abbrev pub at-power : {K : Type 0} → Condition K → ℕ → Condition K
@@ -41,7 +36,7 @@ at-power c r = condition (c .abscissa) (c .ordinate) (c .exponent-y) r
 
 -- the condition at the next lower power of x, if there is one, is in the list
 abbrev pub Prepared : {K : Type 0} → List (Condition K) → Condition K → Type 0
-Prepared cs c = (r : ℕ) → c .exponent-x ≡ suc r → Among (at-power c r) cs
+Prepared cs c = (r : ℕ) → c .exponent-x ≡ suc r → Member (at-power c r) cs
 
 -- each condition of cs comes after the one at the next lower power of x, which stands in ds or before it in cs
 abbrev pub Follows : {K : Type 0} → List (Condition K) → List (Condition K) → Type 0

@@ -12,6 +12,7 @@ pub mod Koetter
 pub mod Lattice
 pub mod LatticeTheorems
 pub mod Linear
+pub mod Members
 pub mod NormalForm
 pub mod OneVariableTheorems
 pub mod Operations

@@ -1,25 +1,15 @@
 -- The list of all roots of Q with a given number of coefficients, level by level.
 use mathlib.Core.Path.{_≡_}
-use mathlib.Core.Logic.{_⊎_}
 use mathlib.Core.List.{List, [], _∷_, _++_, map}
 use lib.ListN.{length}
 use Prim.Native.Nat.{ℕ, zero, suc, _<_}
+use Rattle.algebra.specs.Members.{Member, NoRepetition}
 use Rattle.algebra.specs.Ring.{CommRing, Field}
 use Rattle.algebra.specs.Series.{Series, tail}
 use Rattle.algebra.specs.Evaluation.{eval, from-list}
 use Rattle.algebra.specs.Interpolation.{Separate}
 use Rattle.algebra.specs.Bivariate.{Bivariate}
 use Rattle.algebra.specs.RootSearch.{Root, decide-vanish, at-zero, strip, next, at-constant}
-
--- a stands in the list
-abbrev pub Member : {A : Type 0} → A → List A → Type 0
-Member a [] = ⊥
-Member a (b ∷ bs) = (a ≡ b) ⊎ Member a bs
-
--- nothing stands in the list twice
-abbrev pub NoRepetition : {A : Type 0} → List A → Type 0
-NoRepetition [] = Unit {0}
-NoRepetition (a ∷ xs) = (Member a xs → ⊥) × NoRepetition xs
 
 -- ε 0, …, ε (q − 1) are all elements of K, each once
 abbrev pub Enumerates : {K : Type 0} → ℕ → (ℕ → K) → Type 0

@@ -3,6 +3,7 @@ use mathlib.Core.Path.{_≡_}
 use mathlib.Core.Logic.{_↔_}
 use lib.ListN.{length}
 use Prim.Native.Nat.{ℕ, suc, _-_, _<_}
+use Rattle.algebra.specs.Members.{Member}
 use Rattle.algebra.specs.Operations.{Operations, Lawful}
 use Rattle.algebra.specs.Elements.{Elem, element-ring, elements, into}
 use Rattle.algebra.specs.Series.{Series, tail, constant, series}
@@ -11,7 +12,7 @@ use Rattle.algebra.specs.Evaluation.{from-list}
 use Rattle.algebra.specs.Interpolation.{Separate}
 use Rattle.algebra.specs.Bivariate.{Bivariate, Weighted}
 use Rattle.algebra.specs.RootSearch.{Nonzero, Root, Vanish, at-zero, lower, strip, Candidate, next, at-constant}
-use Rattle.algebra.specs.RootList.{Member, to-list, ListsRoots, search}
+use Rattle.algebra.specs.RootList.{to-list, ListsRoots, search}
 
 -- a polynomial other than zero, of degree below l in y, has fewer than l distinct roots
 abbrev pub Few-roots : Type 0
