@@ -7,8 +7,8 @@ use native.Mathlib.Decide.{decLe}
 use Rattle.algebra.specs.Ring.{CommRing, mul-zero}
 use Rattle.algebra.specs.Solver.{ring1, :0, _:*_, _:-_, :-_, _:≡_}
 use Rattle.algebra.specs.Series.{Series, tail, constant, X, x-minus, series}
-use Rattle.algebra.specs.Coefficients.{add-at, neg-at, constant-mul-at}
-use Rattle.algebra.specs.Linear.{x-minus-mul-at-zero, x-minus-mul-at-suc}
+use Rattle.algebra.proofs.Coefficients.{add-at, neg-at, constant-mul-at}
+use Rattle.algebra.proofs.Linear.{x-minus-mul-at-zero, x-minus-mul-at-suc}
 use Rattle.algebra.specs.Degree.{Below}
 use Rattle.algebra.specs.Evaluation.{taylor}
 use Rattle.algebra.specs.Sum.{power}

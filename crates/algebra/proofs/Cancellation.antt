@@ -7,7 +7,7 @@ use native.Mathlib.Omega.{arith}
 use Rattle.algebra.specs.Ring.{CommRing, Field}
 use Rattle.algebra.specs.Solver.{ring1, ring2, :0, :1, _:*_, _:-_, _:≡_}
 use Rattle.algebra.specs.Series.{x-minus, series}
-use Rattle.algebra.specs.Coefficients.{zero-at}
+use Rattle.algebra.proofs.Coefficients.{zero-at}
 use Rattle.algebra.specs.Degree.{Below}
 use Rattle.algebra.specs.Bivariate.{Bivariate, scale}
 use Rattle.algebra.specs.Conditions.{Condition, discrepancy, Meets}

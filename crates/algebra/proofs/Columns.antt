@@ -5,7 +5,7 @@ use Prim.Native.Nat
 use native.Mathlib.Omega.{arith}
 use Rattle.algebra.specs.Ring.{CommRing}
 use Rattle.algebra.specs.Series.{tail, constant, series}
-use Rattle.algebra.specs.Coefficients.{zero-at, add-at, constant-mul-at}
+use Rattle.algebra.proofs.Coefficients.{zero-at, add-at, constant-mul-at}
 use Rattle.algebra.specs.Evaluation.{taylor}
 use Rattle.algebra.specs.Bivariate.{Bivariate}
 use Rattle.algebra.specs.RootSearch.{next}

@@ -8,7 +8,7 @@ use native.Mathlib.Omega.{arith}
 use Rattle.algebra.specs.Ring.{CommRing}
 use Rattle.algebra.specs.Solver.{ring1, :0, _:*_, _:-_, _:≡_}
 use Rattle.algebra.specs.Series.{Series, x-minus}
-use Rattle.algebra.specs.Coefficients.{mul-at-zero-of}
+use Rattle.algebra.proofs.Coefficients.{mul-at-zero-of}
 use Rattle.algebra.specs.Degree.{Below}
 use Rattle.algebra.specs.Evaluation.{taylor}
 use Rattle.algebra.specs.Bivariate.{Bivariate, scale, local-expansion}

@@ -8,8 +8,8 @@ use native.Mathlib.Decide.{decLe}
 use Rattle.algebra.specs.Ring.{CommRing, mul-one, mul-zero, neg-zero}
 use Rattle.algebra.specs.Solver.{ring1, ring2, :0, _:+_, _:*_, _:-_, _:≡_}
 use Rattle.algebra.specs.Series.{Series, tail, constant, X, x-minus, plus-x, series}
-use Rattle.algebra.specs.Coefficients.{one-constant, zero-at, add-at, neg-at, mul-at-suc, mul-at-cong, mul-at-zero-of, constant-at-zero, constant-at-suc, constant-mul-at}
-use Rattle.algebra.specs.Linear.{X-mul-at-zero, X-mul-at-suc, x-minus-mul-at-suc}
+use Rattle.algebra.proofs.Coefficients.{one-constant, zero-at, add-at, neg-at, mul-at-suc, mul-at-cong, mul-at-zero-of, constant-at-zero, constant-at-suc, constant-mul-at}
+use Rattle.algebra.proofs.Linear.{X-mul-at-zero, X-mul-at-suc, x-minus-mul-at-suc}
 use Rattle.algebra.specs.Degree.{Below}
 
 module _ {K : Type 0} (R : CommRing K) where

@@ -8,8 +8,8 @@ use native.Mathlib.Decide.{decLe, ℕ-discrete}
 use Rattle.algebra.specs.Ring.{CommRing, mul-zero, neg-zero}
 use Rattle.algebra.specs.Solver.{ring2, :0, _:+_, _:*_, _:≡_}
 use Rattle.algebra.specs.Series.{Series, tail, constant, X, series}
-use Rattle.algebra.specs.Coefficients.{zero-at, add-at, neg-at, mul-at-suc, mul-at-cong, mul-at-zero-of, constant-at-zero, constant-mul-at}
-use Rattle.algebra.specs.Linear.{X-mul-at-zero, X-mul-at-suc}
+use Rattle.algebra.proofs.Coefficients.{zero-at, add-at, neg-at, mul-at-suc, mul-at-cong, mul-at-zero-of, constant-at-zero, constant-mul-at}
+use Rattle.algebra.proofs.Linear.{X-mul-at-zero, X-mul-at-suc}
 use Rattle.algebra.specs.Degree.{Divisible}
 
 module _ {K : Type 0} (R : CommRing K) where

@@ -8,8 +8,8 @@ use native.Mathlib.Omega.{arith}
 use Rattle.algebra.specs.Ring.{CommRing, zero-add, mul-zero, zero-mul, mul-one}
 use Rattle.algebra.specs.Solver.{ring1, ring2, ring3, ring4, ring5, :0, _:+_, _:*_, _:-_, :-_, _:≡_}
 use Rattle.algebra.specs.Series.{Series, tail, constant, X, x-minus, plus-x, series}
-use Rattle.algebra.specs.Coefficients.{one-constant, constant-at-zero, constant-mul-at}
-use Rattle.algebra.specs.Linear.{X-mul-at-zero, tail-X-mul, mul-head-tail}
+use Rattle.algebra.proofs.Coefficients.{one-constant, constant-at-zero, constant-mul-at}
+use Rattle.algebra.proofs.Linear.{X-mul-at-zero, tail-X-mul, mul-head-tail}
 use Rattle.algebra.specs.Degree.{Below}
 use Rattle.algebra.specs.Evaluation.{eval, horner, from-list}
 use Rattle.algebra.specs.Homomorphism.{Homomorphism}

@@ -8,7 +8,7 @@ use native.Mathlib.Decide.{decLt}
 use Rattle.algebra.specs.Members.{Member, NoRepetition}
 use Rattle.algebra.specs.Ring.{CommRing, Field, no-zero-divisors}
 use Rattle.algebra.specs.Series.{Series, series}
-use Rattle.algebra.specs.Coefficients.{zero-at}
+use Rattle.algebra.proofs.Coefficients.{zero-at}
 use Rattle.algebra.specs.Degree.{Below}
 use Rattle.algebra.specs.Bivariate.{Bivariate}
 use Rattle.algebra.specs.Interpolation.{Separate}

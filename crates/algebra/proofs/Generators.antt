@@ -7,8 +7,8 @@ use native.Mathlib.Decide.{decLe}
 use Rattle.algebra.specs.Ring.{CommRing, mul-one}
 use Rattle.algebra.specs.Solver.{ring3, _:*_, _:≡_}
 use Rattle.algebra.specs.Series.{Series, tail, constant, X, x-minus, series}
-use Rattle.algebra.specs.Coefficients.{constant-mul-at}
-use Rattle.algebra.specs.Linear.{head-tail}
+use Rattle.algebra.proofs.Coefficients.{constant-mul-at}
+use Rattle.algebra.proofs.Linear.{head-tail}
 use Rattle.algebra.specs.Degree.{Below}
 use Rattle.algebra.specs.Sum.{sum, power}
 use Rattle.algebra.specs.Bivariate.{Bivariate, scale, y-power}

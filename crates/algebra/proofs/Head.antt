@@ -8,8 +8,8 @@ use Rattle.algebra.specs.Ring.{CommRing}
 use Rattle.algebra.specs.Ring
 use Rattle.algebra.specs.Solver.{ring1, ring2, :0, _:*_, _:-_, :-_, _:≡_}
 use Rattle.algebra.specs.Series.{Series, constant, x-minus, series}
-use Rattle.algebra.specs.Coefficients.{zero-at, add-at, neg-at, constant-mul-at}
-use Rattle.algebra.specs.Linear.{x-minus-mul-at-zero, x-minus-mul-at-suc}
+use Rattle.algebra.proofs.Coefficients.{zero-at, add-at, neg-at, constant-mul-at}
+use Rattle.algebra.proofs.Linear.{x-minus-mul-at-zero, x-minus-mul-at-suc}
 use Rattle.algebra.specs.Degree.{Below}
 use Rattle.algebra.specs.Bivariate.{Bivariate, Weighted, scale}
 use Rattle.algebra.specs.Koetter.{AtMost, Before, Head, less}

@@ -3,7 +3,7 @@ use mathlib.Core.Path.{_≡_, sym, _∙_, ap, ap₂, fun-ext}
 use Prim.Native.Nat.{ℕ, zero, suc}
 use Rattle.algebra.specs.Ring.{CommRing, add-cancel-left, neg-unique}
 use Rattle.algebra.specs.Series.{Series, tail, constant, series}
-use Rattle.algebra.specs.Coefficients.{add-at, mul-at-zero, mul-at-suc, one-constant, constant-at-zero, constant-at-suc, constant-add, constant-mul}
+use Rattle.algebra.proofs.Coefficients.{add-at, mul-at-zero, mul-at-suc, one-constant, constant-at-zero, constant-at-suc, constant-add, constant-mul}
 use Rattle.algebra.specs.Homomorphism.{Homomorphism}
 
 module _ {K L : Type 0} (R : CommRing K) (S : CommRing L) (φ : K → L) (hom : Homomorphism R S φ) where

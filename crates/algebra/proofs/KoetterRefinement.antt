@@ -4,8 +4,8 @@ use Prim.Native.Nat.{ℕ, zero, suc}
 use native.Mathlib.Decide.{ℕ-discrete}
 use Rattle.algebra.specs.Ring.{CommRing}
 use Rattle.algebra.specs.Series.{tail, constant, x-minus, series}
-use Rattle.algebra.specs.Coefficients.{zero-at, one-constant, add-at, constant-mul-at}
-use Rattle.algebra.specs.Linear.{x-minus-mul-at-zero, x-minus-mul-at-suc}
+use Rattle.algebra.proofs.Coefficients.{zero-at, one-constant, add-at, constant-mul-at}
+use Rattle.algebra.proofs.Linear.{x-minus-mul-at-zero, x-minus-mul-at-suc}
 use Rattle.algebra.specs.Evaluation.{taylor}
 use Rattle.algebra.specs.Bivariate.{Bivariate, scale, y-power}
 use Rattle.algebra.specs.Conditions.{Condition, discrepancy}

@@ -6,8 +6,8 @@ use native.Mathlib.Omega.{arith}
 use native.Mathlib.Decide.{ℕ-discrete}
 use Rattle.algebra.specs.Ring.{CommRing, Field}
 use Rattle.algebra.specs.Series.{series}
-use Rattle.algebra.specs.Coefficients.{zero-at, one-constant, constant-at-zero, constant-at-suc}
-use Rattle.algebra.specs.Linear.{X-mul-at-zero, X-mul-at-suc}
+use Rattle.algebra.proofs.Coefficients.{zero-at, one-constant, constant-at-zero, constant-at-suc}
+use Rattle.algebra.proofs.Linear.{X-mul-at-zero, X-mul-at-suc}
 use Rattle.algebra.specs.Degree.{Below}
 use Rattle.algebra.specs.Conditions.{triangle}
 use Rattle.algebra.specs.Koetter.{State, AtMost, Head, Start, degree-sum, Invariant, Least}

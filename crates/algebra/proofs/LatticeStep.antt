@@ -6,7 +6,7 @@ use native.Mathlib.Omega.{arith}
 use Rattle.algebra.specs.Ring.{CommRing, Field}
 use Rattle.algebra.specs.Solver.{ring2, _:+_, _:-_, _:≡_}
 use Rattle.algebra.specs.Series.{Series, constant, x-minus, series}
-use Rattle.algebra.specs.Coefficients.{constant-neg}
+use Rattle.algebra.proofs.Coefficients.{constant-neg}
 use Rattle.algebra.specs.Degree.{Below}
 use Rattle.algebra.specs.Evaluation.{eval, quotient}
 use Rattle.algebra.specs.Sum.{power}

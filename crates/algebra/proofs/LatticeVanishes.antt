@@ -5,8 +5,8 @@ use Prim.Native.Nat
 use native.Mathlib.Omega.{arith}
 use Rattle.algebra.specs.Ring.{CommRing}
 use Rattle.algebra.specs.Series.{Series, X, x-minus, series}
-use Rattle.algebra.specs.Coefficients.{one-constant, constant-at-zero, constant-at-suc}
-use Rattle.algebra.specs.Linear.{X-at-zero, X-at-one, X-at-suc-suc}
+use Rattle.algebra.proofs.Coefficients.{one-constant, constant-at-zero, constant-at-suc}
+use Rattle.algebra.proofs.Linear.{X-at-zero, X-at-one, X-at-suc-suc}
 use Rattle.algebra.specs.Degree.{Below}
 use Rattle.algebra.specs.Evaluation.{eval}
 use Rattle.algebra.specs.Sum.{power}

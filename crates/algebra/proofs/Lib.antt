@@ -1,5 +1,6 @@
 pub mod Bivariate
 pub mod Cancellation
+pub mod Coefficients
 pub mod Columns
 pub mod Completeness
 pub mod ConditionCount
@@ -35,6 +36,7 @@ pub mod LatticeMembership
 pub mod LatticeStep
 pub mod LatticeTheorem
 pub mod LatticeVanishes
+pub mod Linear
 pub mod LinearFactor
 pub mod ListMembers
 pub mod ListedRoots

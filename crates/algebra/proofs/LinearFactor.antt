@@ -7,8 +7,8 @@ use native.Mathlib.Omega.{arith}
 use Rattle.algebra.specs.Ring.{CommRing, zero-add}
 use Rattle.algebra.specs.Solver.{ring3, _:+_, _:*_, _:-_, :-_, _:≡_}
 use Rattle.algebra.specs.Series.{Series, tail, constant, shift, X, x-minus, plus-x, series}
-use Rattle.algebra.specs.Coefficients.{add-at, neg-at, mul-at-zero-of, constant-at-zero, constant-at-suc}
-use Rattle.algebra.specs.Linear.{X-mul-at-zero, X-mul-at-suc, X-at-zero, X-at-one, X-at-suc-suc, head-tail, plus-x-at-zero, plus-x-mul-at-suc}
+use Rattle.algebra.proofs.Coefficients.{add-at, neg-at, mul-at-zero-of, constant-at-zero, constant-at-suc}
+use Rattle.algebra.proofs.Linear.{X-mul-at-zero, X-mul-at-suc, X-at-zero, X-at-one, X-at-suc-suc, head-tail, plus-x-at-zero, plus-x-mul-at-suc}
 use Rattle.algebra.specs.Degree.{Below}
 use Rattle.algebra.specs.Evaluation.{eval, taylor}
 use Rattle.algebra.specs.Bivariate.{Bivariate, local-expansion, Multiplicity}

@@ -8,7 +8,7 @@ use native.Mathlib.Omega.{arith}
 use Rattle.algebra.specs.Members.{Member}
 use Rattle.algebra.specs.Ring.{CommRing, mul-zero}
 use Rattle.algebra.specs.Series.{Series, tail, constant, X, series}
-use Rattle.algebra.specs.Coefficients.{zero-at}
+use Rattle.algebra.proofs.Coefficients.{zero-at}
 use Rattle.algebra.specs.Degree.{Below}
 use Rattle.algebra.specs.Evaluation.{from-list}
 use Rattle.algebra.specs.Interpolation.{Separate}

@@ -5,8 +5,8 @@ use Prim.Native.Nat
 use native.Mathlib.Omega.{arith}
 use Rattle.algebra.specs.Ring.{CommRing}
 use Rattle.algebra.specs.Series.{Series, tail, constant, x-minus, series}
-use Rattle.algebra.specs.Coefficients.{add-at, neg-at, mul-at-zero, mul-at-suc, constant-mul-at}
-use Rattle.algebra.specs.Linear.{X-mul-at-zero, X-mul-at-suc}
+use Rattle.algebra.proofs.Coefficients.{add-at, neg-at, mul-at-zero, mul-at-suc, constant-mul-at}
+use Rattle.algebra.proofs.Linear.{X-mul-at-zero, X-mul-at-suc}
 use Rattle.algebra.specs.Degree.{Below}
 use Rattle.algebra.specs.Evaluation.{taylor}
 use Rattle.algebra.specs.Bivariate.{Bivariate, scale, local-expansion}

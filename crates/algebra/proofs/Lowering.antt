@@ -7,8 +7,8 @@ use native.Mathlib.Omega.{arith}
 use native.Mathlib.Decide.{decLt}
 use Rattle.algebra.specs.Ring.{CommRing, zero-add, mul-zero}
 use Rattle.algebra.specs.Series.{Series, tail, constant, X, series}
-use Rattle.algebra.specs.Coefficients.{zero-at, constant-zero, constant-mul-at}
-use Rattle.algebra.specs.Linear.{head-tail, X-mul-at-suc}
+use Rattle.algebra.proofs.Coefficients.{zero-at, constant-zero, constant-mul-at}
+use Rattle.algebra.proofs.Linear.{head-tail, X-mul-at-suc}
 use Rattle.algebra.specs.Degree.{Below}
 use Rattle.algebra.specs.Bivariate.{Bivariate, Weighted, scale, substitute}
 use Rattle.algebra.specs.RootSearch.{Nonzero, Root, Vanish, at-zero, lower}

@@ -7,8 +7,8 @@ use native.Mathlib.Omega.{arith}
 use native.Mathlib.Decide.{decLe}
 use Rattle.algebra.specs.Ring.{CommRing, Field, no-zero-divisors, sub-nonzero}
 use Rattle.algebra.specs.Series.{Series, tail, constant, X, x-minus, plus-x, series}
-use Rattle.algebra.specs.Coefficients.{add-at, mul-at-zero, mul-at-suc, mul-at-zero-of}
-use Rattle.algebra.specs.Linear.{plus-x-at-zero, X-mul-at-zero, head-tail}
+use Rattle.algebra.proofs.Coefficients.{add-at, mul-at-zero, mul-at-suc, mul-at-zero-of}
+use Rattle.algebra.proofs.Linear.{plus-x-at-zero, X-mul-at-zero, head-tail}
 use Rattle.algebra.specs.Degree.{Below, Divisible}
 use Rattle.algebra.specs.Evaluation.{eval, taylor}
 use Rattle.algebra.specs.Order.{Order}

@@ -6,7 +6,7 @@ use Prim.Native.Nat
 use native.Mathlib.Omega.{arith}
 use Rattle.algebra.specs.Ring.{CommRing, mul-zero}
 use Rattle.algebra.specs.Series.{Series, tail, series}
-use Rattle.algebra.specs.Coefficients.{add-at, mul-at-zero, mul-at-suc, mul-at-zero-of}
+use Rattle.algebra.proofs.Coefficients.{add-at, mul-at-zero, mul-at-suc, mul-at-zero-of}
 use Rattle.algebra.specs.Degree.{Below}
 use Rattle.algebra.specs.Evaluation.{taylor}
 use Rattle.algebra.specs.Order.{Order}

@@ -5,8 +5,8 @@ use Prim.Native.Nat
 use native.Mathlib.Omega.{arith}
 use Rattle.algebra.specs.Ring.{CommRing, Field, no-zero-divisors, sub-nonzero}
 use Rattle.algebra.specs.Series.{Series, constant, x-minus, plus-x, series}
-use Rattle.algebra.specs.Coefficients.{mul-at-one}
-use Rattle.algebra.specs.Linear.{plus-x-at-zero}
+use Rattle.algebra.proofs.Coefficients.{mul-at-one}
+use Rattle.algebra.proofs.Linear.{plus-x-at-zero}
 use Rattle.algebra.specs.Degree.{Below, Divisible}
 use Rattle.algebra.specs.Evaluation.{eval, taylor, quotient, derivative}
 use Rattle.algebra.specs.Order.{Order}

@@ -5,7 +5,7 @@ use Prim.Native.Nat.{ℕ, zero, suc}
 use native.Mathlib.Omega.{arith}
 use Rattle.algebra.specs.Ring.{CommRing}
 use Rattle.algebra.specs.Series.{X, x-minus, series}
-use Rattle.algebra.specs.Coefficients.{one-constant}
+use Rattle.algebra.proofs.Coefficients.{one-constant}
 use Rattle.algebra.specs.Degree.{Below, Divisible}
 use Rattle.algebra.specs.Evaluation.{taylor}
 use Rattle.algebra.specs.Sum.{power}

@@ -5,8 +5,8 @@ use native.Mathlib.Omega.{arith}
 use Rattle.algebra.specs.Ring.{CommRing}
 use Rattle.algebra.specs.Solver.{ring1, ring3, :0, _:+_, _:*_, _:-_, :-_, _:≡_}
 use Rattle.algebra.specs.Series.{Series, tail, constant, x-minus, series}
-use Rattle.algebra.specs.Coefficients.{add-at, constant-at-zero, constant-at-suc, constant-zero}
-use Rattle.algebra.specs.Linear.{x-minus-mul-at-zero, x-minus-mul-at-suc}
+use Rattle.algebra.proofs.Coefficients.{add-at, constant-at-zero, constant-at-suc, constant-zero}
+use Rattle.algebra.proofs.Linear.{x-minus-mul-at-zero, x-minus-mul-at-suc}
 use Rattle.algebra.specs.Degree.{Below}
 use Rattle.algebra.specs.Evaluation.{eval, quotient}
 use Rattle.algebra.proofs.Degree.{below-tail}

@@ -9,8 +9,8 @@ use native.Mathlib.Nat.{mul-le-mul-left}
 use Rattle.algebra.specs.Ring.{CommRing, mul-zero}
 use Rattle.algebra.specs.Solver.{ring1, :0, _:+_, _:*_, _:≡_}
 use Rattle.algebra.specs.Series.{Series, tail, constant, X, series}
-use Rattle.algebra.specs.Coefficients.{zero-at, add-at, constant-mul-at}
-use Rattle.algebra.specs.Linear.{head-tail}
+use Rattle.algebra.proofs.Coefficients.{zero-at, add-at, constant-mul-at}
+use Rattle.algebra.proofs.Linear.{head-tail}
 use Rattle.algebra.specs.Degree.{Below}
 use Rattle.algebra.specs.Evaluation.{taylor}
 use Rattle.algebra.specs.Sum.{power}

@@ -6,7 +6,7 @@ use native.Mathlib.Omega.{arith}
 use native.Mathlib.Decide.{ℕ-discrete}
 use Rattle.algebra.specs.Ring.{CommRing, Field, Domain, mul-zero, eq-of-sub, sub-of-eq, no-zero-divisors}
 use Rattle.algebra.specs.Series.{Series, tail, x-minus, series}
-use Rattle.algebra.specs.Coefficients.{zero-at}
+use Rattle.algebra.proofs.Coefficients.{zero-at}
 use Rattle.algebra.specs.Degree.{Below, Divisible}
 use Rattle.algebra.specs.Evaluation.{eval, quotient}
 use Rattle.algebra.specs.Interpolation.{Separate}

@@ -6,8 +6,8 @@ use native.Mathlib.Omega.{arith}
 use Rattle.algebra.specs.Ring.{CommRing, Field, zero-add, mul-one, mul-zero, mul-nonzero}
 use Rattle.algebra.specs.Solver.{ring3, ring4, _:+_, _:*_, _:≡_}
 use Rattle.algebra.specs.Series.{Series, tail, X, series}
-use Rattle.algebra.specs.Coefficients.{mul-at-zero, mul-at-suc}
-use Rattle.algebra.specs.Linear.{X-mul-at-suc}
+use Rattle.algebra.proofs.Coefficients.{mul-at-zero, mul-at-suc}
+use Rattle.algebra.proofs.Linear.{X-mul-at-suc}
 use Rattle.algebra.specs.Evaluation.{eval}
 use Rattle.algebra.specs.Homomorphism.{Homomorphism}
 use Rattle.algebra.specs.Sum.{sum, power}

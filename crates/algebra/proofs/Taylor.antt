@@ -6,8 +6,8 @@ use native.Mathlib.Omega.{arith}
 use Rattle.algebra.specs.Ring.{CommRing, zero-add}
 use Rattle.algebra.specs.Solver.{ring3, _:+_, _:-_, :-_, _:≡_}
 use Rattle.algebra.specs.Series.{Series, tail, constant, shift, X, x-minus, plus-x, series}
-use Rattle.algebra.specs.Coefficients.{zero-at, add-at, one-constant, constant-at-zero, constant-at-suc, constant-zero, constant-add, constant-neg}
-use Rattle.algebra.specs.Linear.{plus-x-mul-at-zero, plus-x-mul-at-suc}
+use Rattle.algebra.proofs.Coefficients.{zero-at, add-at, one-constant, constant-at-zero, constant-at-suc, constant-zero, constant-add, constant-neg}
+use Rattle.algebra.proofs.Linear.{plus-x-mul-at-zero, plus-x-mul-at-suc}
 use Rattle.algebra.specs.Degree.{Below}
 use Rattle.algebra.specs.Evaluation.{eval, taylor}
 use Rattle.algebra.specs.Homomorphism.{Homomorphism}

@@ -5,7 +5,7 @@ use Prim.Native.Nat
 use native.Mathlib.Omega.{arith}
 use Rattle.algebra.specs.Ring.{CommRing}
 use Rattle.algebra.specs.Series.{Series, tail, series}
-use Rattle.algebra.specs.Coefficients.{zero-at}
+use Rattle.algebra.proofs.Coefficients.{zero-at}
 use Rattle.algebra.specs.Degree.{Below}
 use Rattle.algebra.specs.Sum.{sum}
 use Rattle.algebra.specs.Order.{Order}

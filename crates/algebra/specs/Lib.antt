@@ -1,5 +1,4 @@
 pub mod Bivariate
-pub mod Coefficients
 pub mod CompletenessTheorems
 pub mod Conditions
 pub mod Degree
@@ -11,7 +10,6 @@ pub mod InterpolationTheorems
 pub mod Koetter
 pub mod Lattice
 pub mod LatticeTheorems
-pub mod Linear
 pub mod Members
 pub mod NormalForm
 pub mod OneVariableTheorems

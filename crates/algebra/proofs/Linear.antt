@@ -4,7 +4,7 @@ use Prim.Native.Nat.{ℕ, zero, suc}
 use Rattle.algebra.specs.Ring.{CommRing, zero-add, zero-mul, add-mul}
 use Rattle.algebra.specs.Solver.{ring3, ring4, _:+_, _:*_, _:-_, _:≡_}
 use Rattle.algebra.specs.Series.{Series, tail, constant, shift, X, x-minus, plus-x, series}
-use Rattle.algebra.specs.Coefficients.{
+use Rattle.algebra.proofs.Coefficients.{
   add-at,
   neg-at,
   constant-at-zero,
