@@ -4,6 +4,7 @@
 Written from docs/CONSOLE.md, docs/FIELDS.md, docs/PLANS.md and docs/REFUSALS.md, with other methods than the
 receiver's: primes by trial division, polynomial products by long multiplication and long division, inverses by search.
 """
+import itertools
 import re
 import sys
 
@@ -77,6 +78,42 @@ def plan(size, n, t, w, k, l, support, multipliers):
     return "plan made"
 
 
+def words_of(state):
+    """Every word of the code, by evaluating every polynomial."""
+    field, (size, n, t, w, k, l, support, multipliers) = state["field"], state["plan"]
+    found = []
+    for f in itertools.product(range(size), repeat=n - t):
+        word = []
+        for a, b in zip(support, multipliers):
+            power, value = 1, 0
+            for c in f:
+                value, power = field.sum(value, field.product(c, power)), field.product(power, a)
+            word.append(field.product(b, value))
+        if all(c < field.letters for c in word):
+            found.append(word)
+    return found
+
+
+def coded(state, verb, xs):
+    """The outcome of check or write."""
+    field = state.get("field")
+    if field is None:
+        raise LookupError
+    size, n, t = state["plan"][:3]
+    if size != field.size:
+        return "refused 20 code 0"
+    if len(xs) != (n if verb == "check" else n - t):
+        return "refused 10 code 0"
+    for i, c in enumerate(xs):
+        if c >= field.letters:
+            return "refused 11 code %d" % i
+    if verb == "check":
+        return "check yes" if xs in words_of(state) else "check no"
+    found = [w for w in words_of(state) if w[: n - t] == xs]
+    assert len(found) <= 1
+    return "write " + " ".join(map(str, found[0])) if found else "refused 12 code 0"
+
+
 def answer(state, ws):
     """The line to print; a KeyError for no such command, a ValueError for no number."""
     if ws[:2] == ["field", "prime"] and len(ws) == 3:
@@ -103,12 +140,18 @@ def answer(state, ws):
         return "%s %d" % (ws[0], getattr(field, ws[0])(*xs) if inside else 0)
     if ws[0] == "plan" and len(ws) > 7 and ws[7] == "/" and "/" in ws[8:]:
         cut = ws.index("/", 8)
-        return plan(*[number(x, 64) for x in ws[1:7]], [number(x, 16) for x in ws[8:cut]], [number(x, 16) for x in ws[cut + 1:]])
+        asked = [number(x, 64) for x in ws[1:7]] + [[number(x, 16) for x in ws[8:cut]], [number(x, 16) for x in ws[cut + 1:]]]
+        outcome = plan(*asked)
+        if outcome == "plan made":
+            state["plan"] = asked
+        return outcome
+    if ws[0] in ("check", "write"):
+        return coded(state, ws[0], [number(x, 16) for x in ws[1:]])
     raise KeyError
 
 
 def main():
-    state = {}
+    state = {"plan": [2, 2, 1, 1, 1, 3, [0, 1], [1, 1]]}
     for i, line in enumerate(sys.stdin.buffer.read().split(b"\n"), 1):
         try:
             ws = line.decode().split()

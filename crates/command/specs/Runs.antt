@@ -13,9 +13,9 @@ use Rattle.std.specs.declared.vec.Vec.{Vec}
 use Rattle.std.specs.declared.option.Option.the-variants.{Some}
 use Rattle.plan.specs.declared.asked.Parameters.{Parameters}
 use Rattle.command.specs.Lines.{FirstSlash, Spells}
-use Rattle.console.specs.States.{Chosen, Planned, withField, inverted}
+use Rattle.console.specs.States.{Chosen, Planned, Checked, WrittenOut, OverField, withField, inverted}
 use Rattle.command.specs.declared.words.Verb.{Verb}
-use Rattle.command.specs.declared.words.Verb.the-variants.{Prime, BinaryTwo, BinaryAll, Sum, Negative, Product, Inverse, Plan}
+use Rattle.command.specs.declared.words.Verb.the-variants.{Prime, BinaryTwo, BinaryAll, Sum, Negative, Product, Inverse, Plan, Check, Write}
 use Rattle.field.specs.Binary.{binary}
 use Rattle.field.specs.Faults.{PrimeFails, BinaryFails}
 use Rattle.field.specs.Meaning.{sumOf, negativeOf, productOf, inverseOf}
@@ -83,6 +83,11 @@ RanPlan ws before (Err Number) after = (after ≡ before) × ((asked : Parameter
 RanPlan ws before (Err NoField) after = ⊥
 RanPlan ws before (Err Memory) after = after ≡ before
 
+-- the words after the first write a list of 16-bit numbers, of which P holds; or one of them writes none, or there is no memory
+abbrev pub RanWord : (List ℕ → Result Answer Trouble → Type 0) → List (List ℕ) → Result Answer Trouble → Type 0
+RanWord P ws r =
+    ((xs : List ℕ) × Elements (drop 1 ws) xs × P xs r) ⊎ (((r ≡ Err Number) × ((xs : List ℕ) → Elements (drop 1 ws) xs → ⊥)) ⊎ (r ≡ Err Memory))
+
 -- what the command does that the words spell
 abbrev pub RanVerb : Verb → List (List ℕ) → Console → Result Answer Trouble → Console → Type 0
 RanVerb Prime ws before r after =
@@ -100,6 +105,10 @@ RanVerb Product ws before r after =
 RanVerb Inverse ws before r after =
     (after ≡ before) × Given 16 (getD ws 1 []) (λ a. r ≡ withField (before .field) (λ m. inverted (inverseOf m a))) (r ≡ Err Number)
 RanVerb Plan ws before r after = RanPlan ws before r after
+RanVerb Check ws before r after =
+    (after ≡ before) × RanWord (λ xs. OverField (before .field) (λ m. Checked (before .plan) m xs)) ws r
+RanVerb Write ws before r after =
+    (after ≡ before) × RanWord (λ xs. OverField (before .field) (λ m. WrittenOut (before .plan) m xs)) ws r
 
 -- a line does what the command does that it spells; one that spells none is an error and changes nothing
 abbrev pub Ran : List (List ℕ) → Console → Result Answer Trouble → Console → Type 0

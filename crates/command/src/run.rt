@@ -1,8 +1,10 @@
 // Carrying out a line: its words name a command and write its numbers.
 ghost use mathlib.Core.Path.{_≡_};
-ghost use Rattle.command.specs.Runs.{Given, Failed, Answered, SixNumbers, NoNumber, Listed, RanPlan, RanVerb, Ran};
+ghost use Prim.Native.Nat.{_<_};
+ghost use lib.ListN.{length, drop};
+ghost use Rattle.command.specs.Runs.{Given, Failed, Answered, SixNumbers, NoNumber, Listed, RanPlan, RanWord, RanVerb, Ran};
 ghost use Rattle.command.specs.Lines.{texts, Spells};
-ghost use Rattle.console.specs.States.{Chosen, withField, inverted};
+ghost use Rattle.console.specs.States.{Chosen, Checked, WrittenOut, OverField, withField, inverted};
 ghost use Rattle.console.specs.declared.answer.Answer.the-variants.{Sum, Negative, Product};
 ghost use Rattle.console.specs.declared.answer.Trouble.the-variants.{Number};
 ghost use Rattle.command.specs.declared.words.Verb.the-variants.{Plan};
@@ -112,6 +114,34 @@ fn run_plan(console: &mut Console, heap: Global, words: &[&str]) -> Result<Answe
     Ok(console.plan(asked, &support, &multipliers))
 }
 
+// The numbers that the words after the first write.
+fn letters(heap: Global, words: &[&str]) -> Result<Vec<u16>, Trouble>
+    requires { ⌜ 0 < length (now words) ⌝ }
+    ensures { λ r. ⌜ Listed (drop 1 (texts (now (words .entry)))) r ⌝ }
+{
+    elements(heap, &words[1..])
+}
+
+fn run_check(console: &Console, heap: Global, words: &[&str]) -> Result<Answer, Trouble>
+    requires { ⌜ 0 < length (now words) ⌝ }
+    ensures { λ r. ⌜ RanWord (λ xs. OverField (now (console .entry) .field) (λ m. Checked (now (console .entry) .plan) m xs)) (texts (now (words .entry))) r ⌝ }
+{
+    match letters(heap, words) {
+        Ok(word) => console.check(&word),
+        Err(trouble) => Err(trouble),
+    }
+}
+
+fn run_write(console: &Console, heap: Global, words: &[&str]) -> Result<Answer, Trouble>
+    requires { ⌜ 0 < length (now words) ⌝ }
+    ensures { λ r. ⌜ RanWord (λ xs. OverField (now (console .entry) .field) (λ m. WrittenOut (now (console .entry) .plan) m xs)) (texts (now (words .entry))) r ⌝ }
+{
+    match letters(heap, words) {
+        Ok(content) => console.write(&content),
+        Err(trouble) => Err(trouble),
+    }
+}
+
 // Carries out the line whose words these are.
 pub fn run_line(console: &mut Console, heap: Global, words: &[&str]) -> Result<Answer, Trouble>
     ensures { λ r. ⌜ Ran (texts (now (words .entry))) (now (console .entry)) r (now (console .exit)) ⌝ }
@@ -140,5 +170,7 @@ fn run_verb(
         Verb::Product => run_product(console, word(words, 1), word(words, 2)),
         Verb::Inverse => run_inverse(console, word(words, 1)),
         Verb::Plan => run_plan(console, heap, words),
+        Verb::Check => run_check(console, heap, words),
+        Verb::Write => run_write(console, heap, words),
     }
 }

@@ -22,9 +22,11 @@ pub(crate) enum Verb {
     Product,
     Inverse,
     Plan,
+    Check,
+    Write,
 }
 
-const VERBS: [Verb; 8] = [
+const VERBS: [Verb; 10] = [
     Verb::Prime,
     Verb::BinaryTwo,
     Verb::BinaryAll,
@@ -33,6 +35,8 @@ const VERBS: [Verb; 8] = [
     Verb::Product,
     Verb::Inverse,
     Verb::Plan,
+    Verb::Check,
+    Verb::Write,
 ];
 
 // Word i, or no text where there is no such word.
@@ -90,6 +94,8 @@ fn spells(verb: Verb, words: &[&str]) -> bool
         Verb::Product => (count == 3) & is(words, 0, "product"),
         Verb::Inverse => (count == 2) & is(words, 0, "inverse"),
         Verb::Plan => is(words, 0, "plan") & is(words, 7, "/") & slash_after(words, 8).is_some(),
+        Verb::Check => is(words, 0, "check"),
+        Verb::Write => is(words, 0, "write"),
     }
 }
 

@@ -1,0 +1,2 @@
+pub mod SpacedText
+pub mod WordsOut

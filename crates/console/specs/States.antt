@@ -1,6 +1,9 @@
 -- What the commands do to the console.
 use mathlib.Core.Path.{_≡_}
+use mathlib.Core.Bool.{Bool}
 use mathlib.Core.List.{List}
+use lib.ListN.{take}
+use Rattle.std.specs.Orderings.{Decides}
 use Prim.Native.Nat.{ℕ}
 use Rattle.std.specs.declared.option.Option.{Option}
 use Rattle.std.specs.declared.option.Option.the-variants.{None, Some}
@@ -16,8 +19,13 @@ use Rattle.plan.specs.declared.asked.Parameters.{Parameters}
 use Rattle.plan.specs.declared.asked.PlanFault.{PlanFault}
 use Rattle.plan.specs.Faults as planFaults
 use Rattle.plan.specs.Plans.{Asked}
+use Rattle.plan.specs.declared.Plan.{Plan}
+use Rattle.code.specs.declared.refusal.CodeFault.{CodeFault}
+use Rattle.code.specs.Codes.{InCode, WordOf}
+use Rattle.code.specs.Faults as codeFaults
+use Rattle.console.specs.declared.word.Word.{Word}
 use Rattle.console.specs.declared.answer.Answer.{Answer}
-use Rattle.console.specs.declared.answer.Answer.the-variants.{Field, Inverse, PlanMade, Refused}
+use Rattle.console.specs.declared.answer.Answer.the-variants.{Field, Inverse, PlanMade, Check, Write, Refused}
 use Rattle.console.specs.declared.answer.Trouble.{Trouble}
 use Rattle.console.specs.declared.answer.Trouble.the-variants.{NoField}
 use Rattle.console.specs.declared.state.Console.{Console}
@@ -61,3 +69,27 @@ PlannedBy (Some f) asked α β before r after = (r ≡ Refused (planFaults.refus
 -- the plan asked for is made, unless a fault holds, the first of which is answered
 abbrev pub Planned : Parameters → List ℕ → List ℕ → Console → Answer → Console → Type 0
 Planned asked α β before r after = (o : Option PlanFault) × Judged planFaults.refusalOf (planFaults.Fails asked α β) o × PlannedBy o asked α β before r after
+
+-- outcome of a check: whether the word is in the code, or a refusal
+abbrev pub CheckedBy : Option CodeFault → Plan → Meaning → List ℕ → Answer → Type 0
+CheckedBy None p m word r = (b : Bool) × Decides b (InCode p m word) × (r ≡ Check b)
+CheckedBy (Some f) p m word r = r ≡ Refused (codeFaults.refusalOf f)
+
+-- whether the word is in the code is answered, unless a fault holds, the first of which is answered
+abbrev pub Checked : Plan → Meaning → List ℕ → Answer → Type 0
+Checked p m word r = (o : Option CodeFault) × Judged codeFaults.refusalOf (codeFaults.CheckFails p m word) o × CheckedBy o p m word r
+
+-- outcome of a writing: the one word that begins with the content, or a refusal
+abbrev pub WrittenBy : Option CodeFault → Plan → Meaning → List ℕ → Answer → Type 0
+WrittenBy None p m content r = (w : Word) × WordOf p m content (take (w .n) (w .letters)) × (r ≡ Write w)
+WrittenBy (Some f) p m content r = r ≡ Refused (codeFaults.refusalOf f)
+
+-- the word that begins with the content is answered, unless a fault holds, the first of which is answered; there is room for any word
+abbrev pub WrittenOut : Plan → Meaning → List ℕ → Answer → Type 0
+WrittenOut p m content r = (o : Option CodeFault) × Judged codeFaults.refusalOf (codeFaults.WriteFails p m content 64) o × WrittenBy o p m content r
+
+-- an answer of which P holds over the field chosen, or an error where none is
+abbrev pub OverField : Choice → (Meaning → Answer → Type 0) → Result Answer Trouble → Type 0
+OverField Nothing P r = r ≡ Err NoField
+OverField (Prime f) P r = (a : Answer) × (r ≡ Ok a) × P (modular (f .p)) a
+OverField (Binary f) P r = (a : Answer) × (r ≡ Ok a) × P (binary (f .m) (f .all)) a

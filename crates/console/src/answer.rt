@@ -2,16 +2,19 @@
 ghost use mathlib.Core.Path.{_≡_};
 ghost use Rattle.console.specs.Text.{answerText, troubleText};
 ghost use Rattle.console.specs.declared.answer.Trouble.the-variants.{Memory};
+use crate::word::Letters;
+use crate::word::LettersDisplay;
+use crate::word::Word;
+use crate::word::WordDebug;
 use fault::Refusal;
 use fault::RefusalDebug;
 use fault::RefusalDisplay;
-use fault::RefusalPartialEq;
 use std::alloc::AllocError;
 use std::alloc::Refused;
 use std::fmt;
 
 // The answer to a command.
-#[derive(Clone, Copy, Debug, PartialEq, Eq)]
+#[derive(Clone, Copy, Debug)]
 pub enum Answer {
     Field { size: u16, letters: u16 },
     Sum(u16),
@@ -19,6 +22,8 @@ pub enum Answer {
     Product(u16),
     Inverse(Option<u16>),
     PlanMade,
+    Check(bool),
+    Write(Word),
     Refused(Refusal),
 }
 
@@ -43,6 +48,14 @@ pub impl fmt::Display for Answer as AnswerDisplay {
             Answer::Inverse(Some(r)) => write!(f, "inverse {r}"),
             Answer::Inverse(None) => write!(f, "inverse none"),
             Answer::PlanMade => write!(f, "plan made"),
+            Answer::Check(true) => write!(f, "check yes"),
+            Answer::Check(false) => write!(f, "check no"),
+            Answer::Write(word) => {
+                let letters = Letters {
+                    letters: word.letters(),
+                };
+                write!(f, "write{letters}")
+            }
             Answer::Refused(refusal) => write!(f, "{refusal}"),
         }
     }

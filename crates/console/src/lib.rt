@@ -2,7 +2,9 @@
 // the answers are written.
 pub mod answer;
 pub mod state;
+pub mod word;
 
 pub use answer::Answer;
 pub use answer::Trouble;
 pub use state::Console;
+pub use word::Letters;

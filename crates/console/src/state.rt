@@ -1,6 +1,6 @@
 // The console's state: the field chosen last and the plan made last, and what each command does to them.
 ghost use mathlib.Core.Path.{_≡_};
-ghost use Rattle.console.specs.States.{meaningOf, Chosen, Planned, withField, plain, inverted};
+ghost use Rattle.console.specs.States.{meaningOf, Chosen, Planned, Checked, WrittenOut, OverField, withField, plain, inverted};
 ghost use Rattle.console.specs.declared.answer.Answer.the-variants.{Sum, Negative, Product};
 ghost use Rattle.console.specs.declared.state.Choice.the-variants.{Nothing};
 ghost use Rattle.field.specs.Binary.{binary as binaryMeaning};
@@ -10,6 +10,9 @@ ghost use Rattle.field.specs.Modular.{modular};
 ghost use Rattle.plan.specs.Plans.{Asked, startingNumbers, startingSupport, startingMultipliers};
 use crate::Answer;
 use crate::Trouble;
+use crate::word::Word;
+use code::check;
+use code::write;
 use field::BinaryField;
 use field::Field;
 use field::PrimeField;
@@ -39,6 +42,27 @@ fn described<F: Field>(field: &F) -> Answer
     Answer::Field {
         size: field.size(),
         letters: field.letters(),
+    }
+}
+
+// Whether the word is in the code of the plan over the field, as an answer.
+fn checked<F: Field>(plan: &Plan, field: &F, word: &[u16]) -> Answer
+    ensures { λ r. ⌜ Checked (now (plan .entry)) (meaning (now (field .entry))) (now (word .entry)) r ⌝ }
+{
+    match check(plan, field, word) {
+        Ok(yes) => Answer::Check(yes),
+        Err(fault) => Answer::Refused(fault.refusal()),
+    }
+}
+
+// The word of the code that begins with the content, as an answer.
+fn written<F: Field>(plan: &Plan, field: &F, content: &[u16]) -> Answer
+    ensures { λ r. ⌜ WrittenOut (now (plan .entry)) (meaning (now (field .entry))) (now (content .entry)) r ⌝ }
+{
+    let mut place = [0u16; 64];
+    match write(plan, field, content, &mut place) {
+        Ok(()) => Answer::Write(Word::new(place, plan.n())),
+        Err(fault) => Answer::Refused(fault.refusal()),
     }
 }
 
@@ -130,6 +154,32 @@ impl Console {
         match self.plan.make(asked, support, multipliers) {
             Ok(()) => Answer::PlanMade,
             Err(fault) => Answer::Refused(fault.refusal()),
+        }
+    }
+
+    // Whether the word is in the code of the plan over the field chosen.
+    pub fn check(&self, word: &[u16]) -> Result<Answer, Trouble>
+        ensures { λ r. ⌜ OverField (now (self .entry) .field) (λ m. Checked (now (self .entry) .plan) m (now (word .entry))) r ⌝ }
+    {
+        let chosen = self.field;
+        let plan = self.plan;
+        match chosen {
+            Choice::Prime(field) => Ok(checked(&plan, &field, word)),
+            Choice::Binary(field) => Ok(checked(&plan, &field, word)),
+            Choice::Nothing => Err(Trouble::NoField),
+        }
+    }
+
+    // The word of the code that begins with the content.
+    pub fn write(&self, content: &[u16]) -> Result<Answer, Trouble>
+        ensures { λ r. ⌜ OverField (now (self .entry) .field) (λ m. WrittenOut (now (self .entry) .plan) m (now (content .entry))) r ⌝ }
+    {
+        let chosen = self.field;
+        let plan = self.plan;
+        match chosen {
+            Choice::Prime(field) => Ok(written(&plan, &field, content)),
+            Choice::Binary(field) => Ok(written(&plan, &field, content)),
+            Choice::Nothing => Err(Trouble::NoField),
         }
     }
 }

@@ -4,6 +4,7 @@ use Rattle.command.specs.Lines.{texts, Spells}
 use Rattle.console.specs.declared.answer.Answer.{Answer}
 use Rattle.command.specs.declared.words.Verb.{Verb}
 use Rattle.command.proofs.Verbs.{one-word, two-words, whole-line}
+use Rattle.command.proofs.WordTests.{word-within}
 use Rattle.command.proofs.run.run_verb.Needs as need
 
 pub returns-in-Prime : need.returns-in-Prime
@@ -32,3 +33,9 @@ returns-in-Plan c = whole-line _ _ (texts (c .args .words .now)) (c .args .conso
 
 pub run-plan-requires : need.run-plan-requires
 run-plan-requires c κs = subst (λ (v : Verb). Spells v (texts (c .args .words .now))) (c .in-Plan .is) (c .pre)
+
+pub run-check-requires : need.run-check-requires
+run-check-requires c κs = word-within (c .args .words .now) 0 _ (subst (λ (v : Verb). Spells v (texts (c .args .words .now))) (c .in-Check .is) (c .pre))
+
+pub run-write-requires : need.run-write-requires
+run-write-requires c κs = word-within (c .args .words .now) 0 _ (subst (λ (v : Verb). Spells v (texts (c .args .words .now))) (c .in-Write .is) (c .pre))

@@ -1,0 +1,6 @@
+pub mod Order
+pub mod Reading
+pub mod Words
+pub mod Theorem
+pub mod Membership
+pub mod Writing

@@ -1,0 +1,4 @@
+pub mod Arithmetic
+pub mod Polynomials
+pub mod Newton
+pub mod Interpolation
