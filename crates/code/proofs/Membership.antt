@@ -1,17 +1,17 @@
 -- A word is in the code exactly if its content extends to it.
-use mathlib.Core.Path.{_≡_, refl, sym, _∙_, ap, subst}
-use mathlib.Core.Bool.{Bool, true}
+use mathlib.Core.Path.{_≡_, sym, ap, subst}
+use mathlib.Core.Bool.{Bool}
 use mathlib.Core.List.{List}
 use Prim.Native.Nat.{ℕ, _-_, _<_, _≤_}
 use native.Mathlib.Omega.{arith}
-use lib.ListN.{length, getD, take}
+use lib.ListN.{length, take}
 use Rattle.std.proofs.shelf.Lists.{length-take-le, getD-take}
 use Rattle.std.specs.Orderings.{Decides}
 use Rattle.std.specs.declared.option.Option.the-variants.{None}
 use Rattle.fault.specs.First.{First}
 use Rattle.field.specs.Meaning.{Meaning}
 use Rattle.plan.specs.declared.Plan.{Plan}
-use Rattle.code.specs.Codes.{Letters, Evaluates, InCode, contentOf, WordOf}
+use Rattle.code.specs.Codes.{Letters, InCode, contentOf, WordOf}
 use Rattle.code.specs.Extension.{Extends}
 use Rattle.code.specs.Faults.{refusalOf, CheckFails}
 use Rattle.code.proofs.Reading.{same-size, same-length, letters}

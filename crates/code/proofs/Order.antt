@@ -1,13 +1,13 @@
 -- Which fault is the first: the conditions in the order in which they are tried.
 use mathlib.Core.Path.{_≡_, refl, sym, ap, _∙_}
-use mathlib.Core.Logic.{inl, inr, ⊎-elim}
+use mathlib.Core.Logic.{⊎-elim}
 use mathlib.Core.Bool.{cond}
-use Prim.Native.Nat.{ℕ, _<_, _≤_}
+use Prim.Native.Nat.{ℕ, _<_}
 use native.Mathlib.Omega.{arith}
 use lib.Dec.{eqb}
 use Rattle.std.specs.declared.option.Option.{Option}
 use Rattle.std.specs.declared.option.Option.the-variants.{None, Some}
-use Rattle.fault.specs.First.{rank, Before, First, Judged}
+use Rattle.fault.specs.First.{rank, First, Judged}
 use Rattle.fault.proofs.Unique as unique
 use Rattle.code.specs.declared.refusal.CodeFault.{CodeFault}
 use Rattle.code.specs.declared.refusal.CodeFault.the-variants.{Field, Shape, Length, Letter, Content, Room, Workspace}

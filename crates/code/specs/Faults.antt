@@ -2,7 +2,7 @@
 use mathlib.Core.Path.{_≡_}
 use mathlib.Core.Logic.{_⊎_, _≢_}
 use mathlib.Core.List.{List}
-use Prim.Native.Nat.{ℕ, _+_, _-_, _*_, _<_, _≤_}
+use Prim.Native.Nat.{ℕ, _+_, _-_, _*_, _<_}
 use lib.ListN.{length, getD}
 use Rattle.fault.specs.declared.Layer.the-variants.{Plan as PlanLayer, Code as CodeLayer}
 use Rattle.fault.specs.declared.Refusal.{Refusal}

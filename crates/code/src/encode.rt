@@ -26,6 +26,8 @@ fn is_word<F: Field>(plan: &Plan, field: &F, extended: &[u16; 64]) -> bool
     are_letters(field, &extended[0..n])
 }
 
+// Whether there is a word comes before whether it fits, so that too short a place hides no fault
+// of the content.
 fn last_fault(whole: bool, room: usize, n: usize) -> Option<CodeFault>
     ensures { λ r. ⌜ r ≡ lastFault whole room n ⌝ }
 {

@@ -24,6 +24,7 @@ fn scale<F: Field>(plan: &Plan, field: &F, content: &[u16], values: &mut [u16])
     }
 }
 
+// What stands at place i of the extended content, given the coefficients of Newton's form.
 fn letter_at<F: Field>(
     plan: &Plan,
     field: &F,
@@ -43,6 +44,8 @@ fn letter_at<F: Field>(
     field.product(multipliers[i], value)
 }
 
+// The whole of the extended content: the letters of the content are put down again rather than
+// copied apart, so that one loop writes every place.
 fn fill_in<F: Field>(
     plan: &Plan,
     field: &F,

@@ -1,6 +1,5 @@
 // Reading a list as letters: what is refused before anything is worked out, in the order of the
 // faults, so that the first one is named.
-ghost use mathlib.Core.Path.{_≡_};
 ghost use mathlib.Core.Logic.{_≢_};
 ghost use lib.ListN.{length};
 ghost use Rattle.std.specs.Orderings.{Decides};
@@ -14,6 +13,7 @@ use field::Field;
 use field::is_letter;
 use plan::Plan;
 
+// The support and the multipliers of a plan are elements only of fields of the plan's size.
 fn other_field<F: Field>(plan: &Plan, field: &F) -> bool
     ensures { λ r. ⌜ Decides r (now (plan .entry) .size ≢ meaning (now (field .entry)) .size) ⌝ }
 {

@@ -19,6 +19,7 @@ fn same(a: &[u16], b: &[u16]) -> bool
     a == b
 }
 
+// All n places are compared: the first n - t agree by themselves, and cost little.
 fn agrees(plan: &Plan, extended: &[u16; 64], word: &[u16]) -> bool
     ensures { λ r. ⌜ Decides r (take (now (plan .entry) .n) (now (extended .entry)) ≡ now (word .entry)) ⌝ }
 {

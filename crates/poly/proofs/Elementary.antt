@@ -1,7 +1,7 @@
 -- The operations on numbers are those of the field of elements.
-use mathlib.Core.Path.{_≡_, refl, sym, _∙_, ap, ap₂, subst}
+use mathlib.Core.Path.{_≡_, refl, sym, _∙_, ap, subst}
 use mathlib.Core.Logic.{⊎-elim}
-use mathlib.Core.Bool.{cond, _&&_}
+use mathlib.Core.Bool.{_&&_}
 use mathlib.Core.List.{List, [], _∷_}
 use Prim.Native.Nat.{ℕ, zero, suc, _+_, _-_, _<_, _≤_}
 use native.Mathlib.Decide.{ℕ-discrete}
@@ -14,12 +14,12 @@ use Rattle.std.specs.declared.option.Option.{Option}
 use Rattle.std.specs.declared.option.Option.the-variants.{None, Some}
 use Rattle.algebra.specs.Operations.{Operations, Lawful}
 use Rattle.algebra.specs.Ring.{CommRing, sub, mul-zero}
-use Rattle.algebra.specs.Elements.{Elem, elem-path, zero-element, inverse-element, element-ring, elements, into}
-use Rattle.algebra.specs.Series.{Series, tail}
+use Rattle.algebra.specs.Elements.{Elem, zero-element, inverse-element, element-ring, elements, into}
+use Rattle.algebra.specs.Series.{Series}
 use Rattle.algebra.specs.Evaluation.{eval}
-use Rattle.algebra.proofs.Elements.{into-sum, into-product, into-negative, into-inverse, into-zero, into-injective, number-into}
-use Rattle.field.specs.Meaning.{Meaning, Element, operations, sumOf, negativeOf, productOf, inverseOf}
-use Rattle.poly.specs.Arithmetic.{differenceOf, timesInverse, quotientOf}
+use Rattle.algebra.proofs.Elements.{into-sum, into-product, into-negative, into-inverse, into-zero, number-into}
+use Rattle.field.specs.Meaning.{Meaning, operations, sumOf, negativeOf, productOf, inverseOf}
+use Rattle.poly.specs.Arithmetic.{differenceOf, timesInverse, quotientOf, affineOf}
 use Rattle.poly.specs.Polynomials.{Elements, valueOf}
 
 -- in a list of elements that counts as followed by zeros every member is an element
@@ -31,18 +31,17 @@ pub value-start : (m : Meaning) (cs : List ℕ) (a : ℕ) → 0 ≡ valueOf m (d
 unfolding valueOf
 value-start m cs a = sym (ap (λ xs. valueOf m xs a) (drop-all (length cs) cs (omega arith)))
 
-pub value-more : (m : Meaning) (cs : List ℕ) (a i v p s : ℕ)
+pub value-more : (m : Meaning) (cs : List ℕ) (a i v s : ℕ)
     → 0 < i
     → i ≤ length cs
     → v ≡ valueOf m (drop i cs) a
-    → p ≡ productOf m a v
-    → s ≡ sumOf m (getD cs (i - 1) 0) p
+    → s ≡ affineOf m (getD cs (i - 1) 0) a v
     → s ≡ valueOf m (drop (i - 1) cs) a
 unfolding valueOf
-value-more m cs a i v p s h l e q u =
+value-more m cs a i v s h l e u =
     let e1 : i - 1 + 1 ≡ i = omega arith in
     u
-    ∙ ap (sumOf m (getD cs (i - 1) 0)) (q ∙ ap (productOf m a) (e ∙ ap (λ x. valueOf m (drop x cs) a) (sym e1)))
+    ∙ ap (affineOf m (getD cs (i - 1) 0) a) (e ∙ ap (λ x. valueOf m (drop x cs) a) (sym e1))
     ∙ sym (ap (λ xs. valueOf m xs a) (drop-more cs (i - 1) 0 (omega arith)))
 
 pub value-end : (m : Meaning) (cs : List ℕ) (a i v : ℕ) → i ≤ 0 → v ≡ valueOf m (drop i cs) a → v ≡ valueOf m cs a
@@ -95,11 +94,9 @@ module _ (m : Meaning) (law : Lawful (operations m)) where
   negative-into a h = ap ⌈_⌉ (cond-true (ltb a (m .size)) (m .negative a) 0 (lt-ltb a (m .size) h)) ∙ into-negative o law a h
 
   pub difference-element : (a b : ℕ) → differenceOf m a b < m .size
-  unfolding differenceOf
   difference-element a b = sum-element a (negativeOf m b)
 
   pub difference-into : (a b : ℕ) → a < m .size → b < m .size → ⌈ differenceOf m a b ⌉ ≡ sub (element-ring o law) ⌈ a ⌉ ⌈ b ⌉
-  unfolding differenceOf
   difference-into a b h k = sum-into a (negativeOf m b) h (negative-element b) ∙ ap (λ x. ⌈ a ⌉ ⊕ x) (negative-into b k)
 
   times-element : (a : ℕ) (b : Option ℕ) → timesInverse m a b < m .size
@@ -107,7 +104,6 @@ module _ (m : Meaning) (law : Lawful (operations m)) where
   times-element a (Some b) = product-element a b
 
   pub quotient-element : (a b : ℕ) → quotientOf m a b < m .size
-  unfolding quotientOf
   quotient-element a b = times-element a (inverseOf m b)
 
   inverse-zero : (a : Elem o) → a .0 ≡ 0 → inv a ≡ 𝟘
@@ -119,12 +115,10 @@ module _ (m : Meaning) (law : Lawful (operations m)) where
       go (no k) = absurd (k h)
 
   quotient-zero : (a b : ℕ) → b ≡ 0 → quotientOf m a b ≡ 0
-  unfolding quotientOf
   quotient-zero a b e = ap (timesInverse m a) (cond-false (ltb 0 b && ltb b (m .size)) (Some (m .inverse b)) None (and-left _ _ (le-ltb 0 b (omega arith))))
 
   -- a quotient by what is not zero
   pub quotient-is : (a b : ℕ) → b < m .size → (b ≡ 0 → ⊥) → quotientOf m a b ≡ productOf m a (m .inverse b)
-  unfolding quotientOf
   quotient-is a b h k = ap (timesInverse m a) (cond-true (ltb 0 b && ltb b (m .size)) (Some (m .inverse b)) None (and-from _ _ (lt-ltb 0 b (let p : 0 < b = positive b k in p)) (lt-ltb b (m .size) h)))
     where
       positive : (x : ℕ) → (x ≡ 0 → ⊥) → 0 < x

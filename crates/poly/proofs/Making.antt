@@ -1,13 +1,13 @@
 -- Lists made from a function of the place, and the loops that make them in place.
 use mathlib.Core.Path.{_≡_, refl, sym, _∙_, ap}
-use mathlib.Core.Logic.{_≢_, inl, inr, ⊎-elim}
+use mathlib.Core.Logic.{_≢_, ⊎-elim}
 use mathlib.Core.List.{List}
 use Prim.Native.Nat.{ℕ, _+_, _<_, _≤_}
 use native.Mathlib.Nat.{zero-add}
 use native.Mathlib.Omega.{arith}
 use lib.ListN.{length, getD, set}
-use Rattle.std.proofs.shelf.Lists.{length-set, getD-set-same, getD-set-other, ext-getD, getD-past}
-use Rattle.std.proofs.shelf.Tests.{cases-eq, cases-lt}
+use Rattle.std.proofs.shelf.Lists.{length-set, getD-set-same, getD-set-other, ext-getD}
+use Rattle.std.proofs.shelf.Tests.{cases-eq}
 use Rattle.std.proofs.shelf.Counted.{length-map-counting, getD-map-counting}
 use Rattle.poly.specs.Newton.{made}
 

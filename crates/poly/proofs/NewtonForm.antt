@@ -10,7 +10,7 @@ use lib.Dec.{ltb}
 use lib.ListN.{length, getD, set}
 use Rattle.std.proofs.shelf.Tests.{cases-eq, cond-true, cond-false, lt-ltb, le-ltb}
 use Rattle.field.specs.Meaning.{Meaning, sumOf, productOf}
-use Rattle.poly.specs.Arithmetic.{differenceOf, quotientOf}
+use Rattle.poly.specs.Arithmetic.{differenceOf, quotientOf, slopeOf, nestOf}
 use Rattle.poly.specs.Newton.{made, dividedAt, sweptAt, sweepOf, reduced, coefficientsOf, nestedFrom, nestedOf}
 use Rattle.poly.proofs.Making.{Upto, upto-start, upto-more, upto-all, length-made, getD-made, is-made, made-same}
 
@@ -32,21 +32,27 @@ module _ (m : Meaning) (α : List ℕ) where
   pub sweep-start : (was : List ℕ) (j : ℕ) → Upto (sweptAt m α (λ i. getD was i 0) j) was (j + 1) was
   sweep-start was j = upto-start _ was (j + 1) (λ k h. sym (swept-kept (λ i. getD was i 0) j k (omega arith)))
 
-  pub sweep-more : (was xs : List ℕ) (j i origin point rise run y : ℕ)
+  pub sweep-more : (was xs : List ℕ) (j i origin point y : ℕ)
       → Upto (sweptAt m α (λ i. getD was i 0) j) was i xs
       → i < length was
       → j < i
       → origin ≡ getD α j 0
-      → rise ≡ differenceOf m (getD xs i 0) (getD was j 0)
       → point ≡ getD α i 0
-      → run ≡ differenceOf m point origin
-      → y ≡ quotientOf m rise run
+      → y ≡ slopeOf m origin (getD was j 0) point (getD xs i 0)
       → Upto (sweptAt m α (λ i. getD was i 0) j) was (i + 1) (set xs i y)
   unfolding dividedAt
-  sweep-more was xs j i origin point rise run y u h l o r p n q =
-      upto-more _ was i xs y u h
+  sweep-more was xs j i origin point y u h l o p q =
+      upto-more
+      _
+      was
+      i
+      xs
+      y
+      u
+      h
       (q
-      ∙ ap₂ (quotientOf m) (r ∙ ap (λ x. differenceOf m x (getD was j 0)) (u .left i (omega arith))) (n ∙ ap₂ (differenceOf m) p o)
+      ∙ ap₂ (λ x z. slopeOf m x (getD was j 0) z (getD xs i 0)) o p
+      ∙ ap (slopeOf m (getD α j 0) (getD was j 0) (getD α i 0)) (u .left i (omega arith))
       ∙ sym (swept-divided (λ i. getD was i 0) j i l))
 
   pub sweep-all : (was xs : List ℕ) (j i : ℕ) → Upto (sweptAt m α (λ i. getD was i 0) j) was i xs → length was ≤ i → xs ≡ sweepOf m α j was
@@ -83,21 +89,19 @@ module _ (m : Meaning) (α : List ℕ) where
     unfolding nestedFrom
     nested-start n = let e : n - n ≡ 0 = omega arith in sym (ap (λ x. nestedFrom m α d z x n) e)
 
-    pub nested-more : (n i v point factor p s : ℕ)
+    pub nested-more : (n i v point s : ℕ)
         → 0 < i
         → i ≤ n
         → v ≡ nestedFrom m α d z (n - i) i
         → point ≡ getD α (i - 1) 0
-        → factor ≡ differenceOf m z point
-        → p ≡ productOf m factor v
-        → s ≡ sumOf m (d (i - 1)) p
+        → s ≡ nestOf m point (d (i - 1)) z v
         → s ≡ nestedFrom m α d z (n - (i - 1)) (i - 1)
     unfolding nestedFrom
-    nested-more n i v point factor p s h l e q f t u =
+    nested-more n i v point s h l e q u =
         let e1 : n - (i - 1) ≡ suc (n - i) = omega arith in
         let e2 : suc (i - 1) ≡ i = omega arith in
         u
-        ∙ ap (sumOf m (d (i - 1))) (t ∙ ap₂ (productOf m) (f ∙ ap (differenceOf m z) q) (e ∙ ap (nestedFrom m α d z (n - i)) (sym e2)))
+        ∙ ap₂ (λ x y. nestOf m x (d (i - 1)) z y) q (e ∙ ap (nestedFrom m α d z (n - i)) (sym e2))
         ∙ sym (ap (λ x. nestedFrom m α d z x (i - 1)) e1)
 
     pub nested-all : (n i v : ℕ) → i ≤ 0 → v ≡ nestedFrom m α d z (n - i) i → v ≡ nestedFrom m α d z n 0

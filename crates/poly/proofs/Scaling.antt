@@ -1,5 +1,5 @@
 -- Multiplication by an element that is not 0, and back.
-use mathlib.Core.Path.{_≡_, sym, _∙_, ap}
+use mathlib.Core.Path.{_≡_, _∙_, ap}
 use Prim.Native.Nat.{ℕ, _<_}
 use Rattle.algebra.specs.Operations.{Operations, Lawful}
 use Rattle.algebra.specs.Ring.{CommRing}

@@ -1,10 +1,9 @@
 -- The polynomial with given values at distinct points is Newton's, over numbers.
-use mathlib.Core.Path.{_≡_, refl, sym, _∙_, ap, ap₂, fun-ext}
+use mathlib.Core.Path.{_≡_, sym, _∙_, ap, ap₂, fun-ext}
 use mathlib.Core.Logic.{⊎-elim}
 use mathlib.Core.List.{List}
-use mathlib.Core.Bool.{cond}
-use Prim.Native.Nat.{ℕ, zero, suc, _+_, _<_, _≤_}
-use native.Mathlib.Nat.{zero-add, add-zero}
+use Prim.Native.Nat.{ℕ, zero, suc, _+_, _<_}
+use native.Mathlib.Nat.{zero-add}
 use native.Mathlib.Omega.{arith}
 use lib.Dec.{ltb}
 use lib.ListN.{length, getD}
@@ -19,8 +18,7 @@ use Rattle.algebra.specs.Evaluation.{eval}
 use Rattle.algebra.specs.Interpolation.{Separate, differences, newton, newton-value}
 use Rattle.algebra.proofs.Elements.{into-zero, into-injective, into-number, number-into}
 use Rattle.algebra.proofs.Interpolation.{below-newton, eval-newton, newton-through, newton-unique}
-use Rattle.field.specs.Meaning.{Meaning, Element, operations, sumOf, productOf}
-use Rattle.poly.specs.Arithmetic.{differenceOf, quotientOf}
+use Rattle.field.specs.Meaning.{Meaning, operations}
 use Rattle.poly.specs.Polynomials.{Elements, valueOf}
 use Rattle.poly.specs.Newton.{made, dividedAt, sweptAt, reduced, coefficientsOf, nestedFrom, nestedOf}
 use Rattle.poly.specs.Interpolation.{Distinct, Through, OneThrough}

@@ -1,5 +1,4 @@
 -- Newton's form of the polynomial through given points. Lists count as followed by zeros.
-use mathlib.Core.Path.{_≡_, refl}
 use mathlib.Core.List.{List, map}
 use mathlib.Core.Bool.{cond}
 use Prim.Native.Nat.{ℕ, zero, suc}

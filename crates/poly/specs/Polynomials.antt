@@ -1,5 +1,5 @@
 -- Polynomials by their coefficients, lowest first.
-use mathlib.Core.Path.{_≡_, refl}
+use mathlib.Core.Path.{_≡_}
 use mathlib.Core.List.{List, [], _∷_}
 use Prim.Native.Nat.{ℕ, _<_}
 use lib.ListN.{length, getD}
@@ -17,11 +17,3 @@ Polynomial m d f = (length f ≡ d) × Elements m f
 unfoldable pub valueOf : Meaning → List ℕ → ℕ → ℕ
 valueOf m [] a = 0
 valueOf m (c ∷ cs) a = sumOf m c (productOf m a (valueOf m cs a))
-
-pub valueOf-none : (m : Meaning) (a : ℕ) → valueOf m [] a ≡ 0
-unfolding valueOf
-valueOf-none m a = refl
-
-pub valueOf-more : (m : Meaning) (c : ℕ) (cs : List ℕ) (a : ℕ) → valueOf m (c ∷ cs) a ≡ sumOf m c (productOf m a (valueOf m cs a))
-unfolding valueOf
-valueOf-more m c cs a = refl

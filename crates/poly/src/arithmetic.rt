@@ -1,9 +1,10 @@
 // Subtraction and division, which the trait of fields leaves to be put together.
 ghost use mathlib.Core.Path.{_≡_};
 ghost use lib.ListN.{getD};
-ghost use Rattle.poly.specs.Arithmetic.{differenceOf, quotientOf};
+ghost use Rattle.poly.specs.Arithmetic.{differenceOf, quotientOf, affineOf};
 use field::Field;
 
+// a − b.
 pub fn difference<F: Field>(field: &F, a: u16, b: u16) -> u16
     ensures { λ r. ⌜ r ≡ differenceOf (meaning (now (field .entry))) a b ⌝ }
 {
@@ -18,6 +19,13 @@ pub fn quotient<F: Field>(field: &F, a: u16, b: u16) -> u16
         Some(inverse) => field.product(a, inverse),
         None => 0,
     }
+}
+
+// c + a·v, the step of every nested form.
+pub(crate) fn affine<F: Field>(field: &F, c: u16, a: u16, v: u16) -> u16
+    ensures { λ r. ⌜ r ≡ affineOf (meaning (now (field .entry))) c a v ⌝ }
+{
+    field.sum(c, field.product(a, v))
 }
 
 // A member of a list that counts as followed by zeros.

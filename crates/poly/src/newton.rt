@@ -3,12 +3,23 @@
 ghost use mathlib.Core.Path.{_≡_};
 ghost use Prim.Native.Nat.{_<_};
 ghost use lib.ListN.{length};
+ghost use Rattle.poly.specs.Arithmetic.{slopeOf, nestOf};
 ghost use Rattle.poly.specs.Newton.{sweepOf, coefficientsOf, nestedOf};
 ghost use Rattle.poly.specs.Interpolation.{OneThrough};
+use crate::arithmetic::affine;
 use crate::arithmetic::difference;
 use crate::arithmetic::member;
 use crate::arithmetic::quotient;
 use field::Field;
+
+// The slope from the point (x0, y0) to the point (x, y).
+fn slope<F: Field>(field: &F, x0: u16, y0: u16, x: u16, y: u16) -> u16
+    ensures { λ r. ⌜ r ≡ slopeOf (meaning (now (field .entry))) x0 y0 x y ⌝ }
+{
+    let rise = difference(field, y, y0);
+    let run = difference(field, x, x0);
+    quotient(field, rise, run)
+}
 
 // Against point j: each later value less value j, divided by the difference of the points.
 fn sweep<F: Field>(field: &F, points: &[u16], values: &mut [u16], j: usize)
@@ -18,9 +29,7 @@ fn sweep<F: Field>(field: &F, points: &[u16], values: &mut [u16], j: usize)
     let first = values[j];
     let origin = member(points, j);
     for i in j + 1..values.len() {
-        let rise = difference(field, values[i], first);
-        let run = difference(field, member(points, i), origin);
-        values[i] = quotient(field, rise, run);
+        values[i] = slope(field, origin, first, member(points, i), values[i]);
     }
 }
 
@@ -33,14 +42,21 @@ pub fn divided_differences<F: Field>(field: &F, points: &[u16], values: &mut [u1
     }
 }
 
+// The value at z of c + (x − x0)·g, where v is that of g.
+fn nest<F: Field>(field: &F, x0: u16, c: u16, z: u16, v: u16) -> u16
+    ensures { λ r. ⌜ r ≡ nestOf (meaning (now (field .entry))) x0 c z v ⌝ }
+{
+    let factor = difference(field, z, x0);
+    affine(field, c, factor, v)
+}
+
 // The value at z of Newton's form with these coefficients at these points, from the last one in.
 pub fn newton_value<F: Field>(field: &F, points: &[u16], coefficients: &[u16], z: u16) -> u16
     ensures { λ r. ⌜ r ≡ nestedOf (meaning (now (field .entry))) (now (points .entry)) (now (coefficients .entry)) z ⌝ }
 {
     let mut v = 0;
     for i in (0..coefficients.len()).rev() {
-        let factor = difference(field, z, member(points, i));
-        v = field.sum(coefficients[i], field.product(factor, v));
+        v = nest(field, member(points, i), coefficients[i], z, v);
     }
     v
 }

@@ -1,3 +1,4 @@
+-- What is put down is the word that was found.
 use Rattle.code.proofs.encode.write.Needs as need
 
 pub returns-in-Ok : need.returns-in-Ok

@@ -1,5 +1,4 @@
 use mathlib.Core.Path.{_∙_, ap}
-use native.Mathlib.Omega.{arith}
 use Rattle.poly.specs.Newton.{made}
 use Rattle.poly.proofs.Making.{upto-more, upto-all}
 use Rattle.code.specs.Codes.{supportOf, multipliersOf}
