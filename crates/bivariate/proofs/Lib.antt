@@ -1,0 +1,12 @@
+pub mod Entries
+pub mod FieldNumbers
+pub mod Flattening
+pub mod LiftedCombinations
+pub mod LiftedRoots
+pub mod LiftedSizes
+pub mod LiftedValues
+pub mod Monomials
+pub mod Searching
+pub mod Steps
+pub mod Upto
+pub mod Writing
