@@ -1,0 +1,4 @@
+pub mod Pivots
+pub mod Rows
+pub mod Runs
+pub mod States
