@@ -3,7 +3,7 @@ use mathlib.Core.Path.{◌≡◌, refl, sym, ◌∙◌, ap, ap₂, subst}
 use mathlib.Core.List.{List, [], ◌∷◌, ◌++◌}
 use lib.ListN.{length, length-append}
 use Prim.Native.Nat.{ℕ, zero, suc, ◌+◌, ◌*◌, ◌-◌, ◌/◌, ◌<◌}
-use native.Mathlib.Nat.{mul-suc, suc-mul, zero_mul, add_comm}
+use native.Mathlib.Nat.{mul-suc, suc-mul, zero-mul, add_comm}
 use native.Mathlib.Omega.{arith}
 use Rattle.algebra.specs.Places.{Place}
 use Rattle.algebra.specs.Conditions.{Condition, condition, column, columns, conditions_of, triangle, condition_count, Uniform}
@@ -66,7 +66,7 @@ module _ {K : Type 0} where
 
   -- n places of multiplicity k take n·k(k + 1)/2 conditions
   pub uniform_count : (k : ℕ) (ps : List (Place K)) → Uniform k ps → condition_count ps ≡ length ps * (k * (k + 1) / 2)
-  uniform_count k [] h = sym (zero_mul (k * (k + 1) / 2))
+  uniform_count k [] h = sym (zero-mul (k * (k + 1) / 2))
   uniform_count k (p ∷ ps) h =
       let e : triangle (suc p.multiplicity) ≡ k * (k + 1) / 2 = ap (λ m. triangle (suc m)) h.0 ∙ triangle_suc_half k in
       let f : condition_count ps ≡ length ps * (k * (k + 1) / 2) = uniform_count k ps h.1 in

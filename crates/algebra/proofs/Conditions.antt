@@ -1,6 +1,6 @@
 -- Lists of conditions: members, and the order in which the powers of x come.
 use mathlib.Core.Path.{◌≡◌, refl, sym, subst}
-use mathlib.Core.List.{List, [], ◌∷◌, ◌++◌, append_nil, append_assoc}
+use mathlib.Core.List.{List, [], ◌∷◌, ◌++◌, append-nil, append_assoc}
 use mathlib.Core.Logic.{◌⊎◌, inl, inr}
 use Prim.Native.Nat.{ℕ, zero, suc, ◌+◌}
 use native.Mathlib.Omega.{arith}
@@ -25,7 +25,7 @@ module _ {K : Type 0} where
       go (inr (inr n)) = absurd n
 
   closed_follows : (ds cs : List (Condition K)) → Closed ds → Follows ds cs → Closed (ds ++ cs)
-  closed_follows ds [] h f = subst Closed (sym (append_nil ds)) h
+  closed_follows ds [] h f = subst Closed (sym (append-nil ds)) h
   closed_follows ds (c ∷ cs) h f =
       subst
       Closed
@@ -50,7 +50,7 @@ module _ {K : Type 0} where
       closed_below cs (at_power c (r + n)) r n h (h c m (r + n) q) refl
 
   pub follows_append : (ds xs ys : List (Condition K)) → Follows ds xs → Follows (ds ++ xs) ys → Follows ds (xs ++ ys)
-  follows_append ds [] ys f g = subst (λ zs. Follows zs ys) (append_nil ds) g
+  follows_append ds [] ys f g = subst (λ zs. Follows zs ys) (append-nil ds) g
   follows_append ds (x ∷ xs) ys f g = (
     f.0,
     follows_append (ds ++ (x ∷ [])) xs ys f.1 (subst (λ zs. Follows zs ys) (sym (append_assoc ds (x ∷ []) xs)) g),
@@ -61,7 +61,7 @@ module _ {K : Type 0} where
   follows_left ds (x ∷ xs) ys f = (f.0, follows_left (ds ++ (x ∷ [])) xs ys f.1)
 
   pub follows_right : (ds xs ys : List (Condition K)) → Follows ds (xs ++ ys) → Follows (ds ++ xs) ys
-  follows_right ds [] ys f = subst (λ zs. Follows zs ys) (sym (append_nil ds)) f
+  follows_right ds [] ys f = subst (λ zs. Follows zs ys) (sym (append-nil ds)) f
   follows_right ds (x ∷ xs) ys f =
       subst (λ zs. Follows zs ys) (append_assoc ds (x ∷ []) xs) (follows_right (ds ++ (x ∷ [])) xs ys f.1)
 

@@ -1,7 +1,7 @@
 -- Sums of the degrees of rows.
 use mathlib.Core.Path.{◌≡◌, refl, sym, ◌∙◌, ap, ap₂}
 use Prim.Native.Nat.{ℕ, zero, suc, ◌+◌, ◌*◌, ◌<◌}
-use native.Mathlib.Nat.{mul_zero, mul_add, suc-mul, zero_mul}
+use native.Mathlib.Nat.{mul-zero, mul-add, suc-mul, zero-mul}
 use native.Mathlib.Omega.{arith}
 use native.Mathlib.Decide.{dec_lt, ℕ_discrete}
 use Rattle.algebra.specs.Conditions.{triangle}
@@ -35,13 +35,13 @@ degree_sum_raise (suc n) p d e h r k =
 
 -- the degrees 0, s, 2s, …
 pub degree_sum_start : (n s : ℕ) (d : ℕ → ℕ) → ((j : ℕ) → j < n → d j ≡ s * j) → degree_sum n d ≡ s * triangle n
-degree_sum_start zero s d h = sym (mul_zero s)
+degree_sum_start zero s d h = sym (mul-zero s)
 degree_sum_start (suc n) s d h =
-    ap₂ ◌+◌ (degree_sum_start n s d (λ j k. h j (omega arith))) (h n (omega arith)) ∙ sym (mul_add s (triangle n) n)
+    ap₂ ◌+◌ (degree_sum_start n s d (λ j k. h j (omega arith))) (h n (omega arith)) ∙ sym (mul-add s (triangle n) n)
 
 -- degrees that sum to less than n·D are not all D or more
 pub degree_sum_least : (n D : ℕ) (d : ℕ → ℕ) → degree_sum n d < n * D → (j : ℕ) × (j < n) × (d j < D)
-degree_sum_least zero D d h = let e : zero * D ≡ 0 = zero_mul D in absurd (omega arith)
+degree_sum_least zero D d h = let e : zero * D ≡ 0 = zero-mul D in absurd (omega arith)
 degree_sum_least (suc n) D d h = go (dec_lt (d n) D) (degree_sum_least n D d)
   where
     go : Dec (d n < D)

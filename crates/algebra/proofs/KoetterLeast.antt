@@ -1,6 +1,6 @@
 -- The degrees of the rows are least: a step of Koetter's method keeps that.
 use mathlib.Core.Path.{◌≡◌, sym, ◌∙◌, ap, subst, subst₂}
-use mathlib.Core.List.{List, [], ◌∷◌, ◌++◌, append_assoc, append_nil}
+use mathlib.Core.List.{List, [], ◌∷◌, ◌++◌, append_assoc, append-nil}
 use mathlib.Core.Logic.{inl, inr}
 use Prim.Native.Nat.{ℕ, suc, ◌≤◌, ◌<◌}
 use native.Mathlib.Omega.{arith}
@@ -146,7 +146,7 @@ module _ {K : Type 0} (F : Field K) where
       → Invariant R s D l ds st
       → Least R s D l ds st
       → Least R s D l (ds ++ cs) st'
-  steps_least s D l ds [] st st' w e inv lst = subst₂ (Least R s D l) (sym (append_nil ds)) e lst
+  steps_least s D l ds [] st st' w e inv lst = subst₂ (Least R s D l) (sym (append-nil ds)) e lst
   steps_least s D l ds (c ∷ cs) st st' w h inv lst =
       let a : ds ++ (c ∷ []) ++ cs ≡ ds ++ (c ∷ cs) = append_assoc ds (c ∷ []) cs in
       let v : WellOrdered (ds ++ (c ∷ []) ++ cs) = subst WellOrdered (sym a) w in

@@ -1,6 +1,6 @@
 -- The method along three loops: over the places, over the powers of y and over the powers of x.
 use mathlib.Core.Path.{◌≡◌, sym, ◌∙◌, subst}
-use mathlib.Core.List.{List, [], ◌∷◌, ◌++◌, append_assoc, append_nil}
+use mathlib.Core.List.{List, [], ◌∷◌, ◌++◌, append_assoc, append-nil}
 use Prim.Native.Nat.{ℕ, suc, ◌-◌}
 use Rattle.algebra.specs.Ring.{Field}
 use Rattle.algebra.specs.Places.{Place}
@@ -13,7 +13,7 @@ use Rattle.algebra.proofs.KoetterLeast.{step_least}
 module _ {K : Type 0} where
   -- a place begins where the places before it end
   pub stage_first : (ps : List (Place K)) (a b : K) (m : ℕ) → stage ps a b m 0 0 ≡ conditions_of ps
-  stage_first ps a b m = append_nil (conditions_of ps ++ []) ∙ append_nil (conditions_of ps)
+  stage_first ps a b m = append-nil (conditions_of ps ++ []) ∙ append-nil (conditions_of ps)
 
   -- the next power of x
   pub stage_next : (ps : List (Place K)) (a b : K) (m u n : ℕ)
@@ -25,13 +25,13 @@ module _ {K : Type 0} where
   pub stage_turn : (ps : List (Place K)) (a b : K) (m u : ℕ) → stage ps a b m u (m - u) ≡ stage ps a b m (suc u) 0
   stage_turn ps a b m u =
       append_assoc (conditions_of ps) (columns a b m u) (column a b u (m - u))
-      ∙ sym (append_nil (conditions_of ps ++ columns a b m (suc u)))
+      ∙ sym (append-nil (conditions_of ps ++ columns a b m (suc u)))
 
   -- the place is done
   pub stage_last : (ps : List (Place K)) (p : Place K)
       → stage ps p.abscissa p.ordinate p.multiplicity p.multiplicity 0 ≡ conditions_of (ps ++ (p ∷ []))
   stage_last ps p =
-      append_nil (conditions_of ps ++ columns p.abscissa p.ordinate p.multiplicity p.multiplicity)
+      append-nil (conditions_of ps ++ columns p.abscissa p.ordinate p.multiplicity p.multiplicity)
       ∙ sym (conditions_last ps p)
 
   next_well_ordered : (ps : List (Place K)) (a b : K) (m u n : ℕ)

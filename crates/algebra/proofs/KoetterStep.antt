@@ -1,6 +1,6 @@
 -- A step of Koetter's method keeps its invariant, for one condition more.
 use mathlib.Core.Path.{◌≡◌, refl, sym, subst, subst₂}
-use mathlib.Core.List.{List, [], ◌∷◌, ◌++◌, append_assoc, append_nil}
+use mathlib.Core.List.{List, [], ◌∷◌, ◌++◌, append_assoc, append-nil}
 use mathlib.Core.Logic.{inl, inr}
 use lib.ListN.{length, length-append}
 use Prim.Native.Nat.{ℕ, suc, ◌+◌, ◌*◌, ◌≤◌, ◌<◌}
@@ -122,7 +122,7 @@ module _ {K : Type 0} (F : Field K) where
       → Steps F D l cs st st'
       → Invariant R s D l ds st
       → Invariant R s D l (ds ++ cs) st'
-  steps_keep s D l ds [] st st' w e inv = subst₂ (Invariant R s D l) (sym (append_nil ds)) e inv
+  steps_keep s D l ds [] st st' w e inv = subst₂ (Invariant R s D l) (sym (append-nil ds)) e inv
   steps_keep s D l ds (c ∷ cs) st st' w h inv =
       let a : ds ++ (c ∷ []) ++ cs ≡ ds ++ (c ∷ cs) = append_assoc ds (c ∷ []) cs in
       let v : WellOrdered (ds ++ (c ∷ []) ++ cs) = subst WellOrdered (sym a) w in

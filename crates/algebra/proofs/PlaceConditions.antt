@@ -1,6 +1,6 @@
 -- The conditions of places: which they are, and that they are well ordered.
 use mathlib.Core.Path.{◌≡◌, sym, ◌∙◌, ap, subst}
-use mathlib.Core.List.{List, [], ◌∷◌, ◌++◌, append_nil, append_assoc}
+use mathlib.Core.List.{List, [], ◌∷◌, ◌++◌, append-nil, append_assoc}
 use mathlib.Core.Logic.{inl}
 use Prim.Native.Nat.{ℕ, zero, suc, ◌+◌, ◌-◌, ◌<◌}
 use native.Mathlib.Omega.{arith}
@@ -89,7 +89,7 @@ module _ {K : Type 0} where
   pub conditions_last : (ps : List (Place K)) (p : Place K)
       → conditions_of (ps ++ (p ∷ []))
       ≡ conditions_of ps ++ columns p.abscissa p.ordinate p.multiplicity p.multiplicity
-  conditions_last [] p = append_nil (columns p.abscissa p.ordinate p.multiplicity p.multiplicity)
+  conditions_last [] p = append-nil (columns p.abscissa p.ordinate p.multiplicity p.multiplicity)
   conditions_last (q ∷ ps) p =
       let cs : List (Condition K) = columns q.abscissa q.ordinate q.multiplicity q.multiplicity in
       let ds : List (Condition K) = columns p.abscissa p.ordinate p.multiplicity p.multiplicity in

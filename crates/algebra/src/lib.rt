@@ -1,4 +1,5 @@
 // The mathematics that the receiver rests on, proved once over abstract operations. No code runs here.
+#![tactic(auto)]
 
 pub mod agreement;
 pub mod bivariate_interpolation;

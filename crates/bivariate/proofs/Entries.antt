@@ -1,5 +1,5 @@
 -- The numbers of the rows and polynomials that the functions make.
-use Rattle.std.proofs.Common.{◌≡◌, ℕ, zero, suc, ◌+◌, ◌-◌, ◌*◌, ◌<◌, ◌≤◌, min, ◌⊎◌, List, [], get_or, sym, refl, ap, ◌∙◌, subst, inl, inr, add_mul, mul_add, arith}
+use Rattle.std.proofs.Common.{◌≡◌, ℕ, zero, suc, ◌+◌, ◌-◌, ◌*◌, ◌<◌, ◌≤◌, min, ◌⊎◌, List, [], get_or, sym, refl, ap, ◌∙◌, subst, inl, inr, add-mul, mul-add, arith}
 use Rattle.std.proofs.lemmas.Bool.{cases_lt}
 use Rattle.field.specs.Meaning.{Meaning, sum_of, negative_of, product_of}
 use Rattle.bivariate.specs.Horner.{before}
@@ -22,7 +22,7 @@ row_length_bound bound weight c = let k : ℕ = c * weight in let h : min (bound
 pub row_length_falls : (bound weight c : ℕ) → row_length bound weight (suc c) ≤ row_length bound weight c
 unfolding row_length
 row_length_falls bound weight c =
-    let e : (c + 1) * weight ≡ c * weight + 1 * weight = add_mul c 1 weight in
+    let e : (c + 1) * weight ≡ c * weight + 1 * weight = add-mul c 1 weight in
     let up : suc c ≡ c + 1 = omega arith in
     let f : suc c * weight ≡ (c + 1) * weight = ap (λ n. n * weight) up in
     let a : ℕ = c * weight in
@@ -34,7 +34,7 @@ row_length_falls bound weight c =
 pub row_length_raised : (bound s c i : ℕ) → c ≤ i → row_length bound s c ≤ i → i < 256 → row_length bound (suc s) c ≤ i - c
 unfolding row_length
 row_length_raised bound s c i k h t =
-    let p : c * (s + 1) ≡ c * s + c * 1 = mul_add c s 1 in
+    let p : c * (s + 1) ≡ c * s + c * 1 = mul-add c s 1 in
     let x : suc s ≡ s + 1 = omega arith in
     let y : c * suc s ≡ c * (s + 1) = ap (λ n. c * n) x in
     let a : ℕ = c * s in
@@ -46,7 +46,7 @@ unfolding row_length
 room_for l bound weight small h k c j =
     let s : ℕ = weight - 1 in
     let x : weight ≡ s + 1 = omega arith in
-    let p : c * (s + 1) ≡ c * s + c * 1 = mul_add c s 1 in
+    let p : c * (s + 1) ≡ c * s + c * 1 = mul-add c s 1 in
     let y : c * weight ≡ c * (s + 1) = ap (λ n. c * n) x in
     omega arith
 

@@ -1,6 +1,6 @@
 -- The total operations on numbers are those of the field on its elements, and their results are elements.
 use Rattle.std.proofs.Common.{◌≡◌, ℕ, ◌<◌, Bool, true, false, cond, ◌&&◌, ltb, ◌⊎◌, sym, ap, ◌∙◌, subst, ap₂, inl, inr, arith}
-use Rattle.std.proofs.lemmas.Bool.{cases_Bool, cond_true, cond_false, lt-ltb, ltb-true, and_from, and_parts}
+use Rattle.std.proofs.lemmas.Bool.{cases_Bool, cond-true, cond-false, lt-ltb, ltb-true, and_from, and_parts}
 use Rattle.algebra.specs.Operations.{Lawful}
 use Rattle.algebra.specs.Elements.{Elem, element_ring, into}
 use Rattle.algebra.proofs.Elements.{into_sum, into_product, into_negative}
@@ -23,8 +23,8 @@ module _ (m : Meaning) (law : Lawful (operations m)) where
   chosen t x h = go (cases_Bool t)
     where
       go : (t ≡ true) ⊎ (t ≡ false) → cond t x 0 < m.size
-      go (inl e) = subst (λ (y : ℕ). y < m.size) (sym (cond_true t x 0 e)) (h e)
-      go (inr e) = subst (λ (y : ℕ). y < m.size) (sym (cond_false t x 0 e)) zero_element
+      go (inl e) = subst (λ (y : ℕ). y < m.size) (sym (cond-true t x 0 e)) (h e)
+      go (inr e) = subst (λ (y : ℕ). y < m.size) (sym (cond-false t x 0 e)) zero_element
 
   pub sum_element : (a b : ℕ) → sum_of m a b < m.size
   sum_element a b =
@@ -52,7 +52,7 @@ module _ (m : Meaning) (law : Lawful (operations m)) where
       → b < m.size
       → into (operations m) law (sum_of m a b) ≡ into (operations m) law a + into (operations m) law b
   into_sum_of a b h k =
-      ap (into (operations m) law) (cond_true (ltb a m.size && ltb b m.size) (m.sum a b) 0 (both a b h k))
+      ap (into (operations m) law) (cond-true (ltb a m.size && ltb b m.size) (m.sum a b) 0 (both a b h k))
       ∙ into_sum (operations m) law a b h k
 
   pub into_product_of : (a b : ℕ)
@@ -60,12 +60,12 @@ module _ (m : Meaning) (law : Lawful (operations m)) where
       → b < m.size
       → into (operations m) law (product_of m a b) ≡ into (operations m) law a * into (operations m) law b
   into_product_of a b h k =
-      ap (into (operations m) law) (cond_true (ltb a m.size && ltb b m.size) (m.product a b) 0 (both a b h k))
+      ap (into (operations m) law) (cond-true (ltb a m.size && ltb b m.size) (m.product a b) 0 (both a b h k))
       ∙ into_product (operations m) law a b h k
 
   pub into_negative_of : (a : ℕ) → a < m.size → into (operations m) law (negative_of m a) ≡ - into (operations m) law a
   into_negative_of a h =
-      ap (into (operations m) law) (cond_true (ltb a m.size) (m.negative a) 0 (lt-ltb a m.size h))
+      ap (into (operations m) law) (cond-true (ltb a m.size) (m.negative a) 0 (lt-ltb a m.size h))
       ∙ into_negative (operations m) law a h
 
   -- the step of Horner's rule

@@ -1,5 +1,5 @@
 -- The steps of the loops that write a polynomial into a workspace.
-use Rattle.std.proofs.Common.{◌≡◌, ℕ, zero, suc, ◌+◌, ◌-◌, ◌*◌, ◌/◌, ◌%◌, ◌<◌, ◌≤◌, min, cond, ltb, leb, ◌⊎◌, List, [], length, get_or, set, sym, refl, ap, ◌∙◌, subst, ap₂, inl, inr, add_mul, mul-le-mul, arith}
+use Rattle.std.proofs.Common.{◌≡◌, ℕ, zero, suc, ◌+◌, ◌-◌, ◌*◌, ◌/◌, ◌%◌, ◌<◌, ◌≤◌, min, cond, ltb, leb, ◌⊎◌, List, [], length, get_or, set, sym, refl, ap, ◌∙◌, subst, ap₂, inl, inr, add-mul, mul-le-mul, arith}
 use lib.Arith.{digits_div, digits_mod}
 use Rattle.std.proofs.lemmas.List.{get_or_past}
 use Rattle.std.proofs.lemmas.Bool.{cases_lt}
@@ -91,7 +91,7 @@ module _ (q : List (List ℕ)) (count width : ℕ) (was : List ℕ) where
   rows_place c i h k =
       let a : ℕ = c * width in
       let b : ℕ = count * width in
-      let e : (c + 1) * width ≡ c * width + 1 * width = add_mul c 1 width in
+      let e : (c + 1) * width ≡ c * width + 1 * width = add-mul c 1 width in
       let l : (c + 1) * width ≤ count * width = mul-le-mul {n₁ = c + 1} {m₁ = width} {n₂ = count} {m₂ = width} (omega arith) (omega arith) in
       let inside : c * width + i < count * width = omega arith in
       pick_below (c * width + i) (count * width) (get_or (get_or q ((c * width + i) / width) []) ((c * width + i) % width) 0) (get_or was (c * width + i) 0) inside
@@ -123,7 +123,7 @@ module _ (q : List (List ℕ)) (count width : ℕ) (was : List ℕ) where
       row = get_or q c []
 
       end : (c + 1) * width ≡ c * width + 1 * width
-      end = add_mul c 1 width
+      end = add-mul c 1 width
 
       go : (k : ℕ) → k < (c + 1) * width → k < length was → (k < start) ⊎ (start ≤ k) → get_or (pasted_of start width row xs) k 0 ≡ rows_at k
       go k l n (inl p) =
@@ -156,7 +156,7 @@ module _ (q : List (List ℕ)) (count width : ℕ) (was : List ℕ) where
 
   pub rows_fit : (c : ℕ) → c < count → count ≤ 8 → width ≤ 256 → 2048 ≤ length was → c * width + width ≤ length was
   rows_fit c h k l n =
-      let e : (c + 1) * width ≡ c * width + 1 * width = add_mul c 1 width in
+      let e : (c + 1) * width ≡ c * width + 1 * width = add-mul c 1 width in
       let m : (c + 1) * width ≤ 8 * 256 = mul-le-mul {n₁ = c + 1} {m₁ = width} {n₂ = 8} {m₂ = 256} (omega arith) l in
       omega arith
 

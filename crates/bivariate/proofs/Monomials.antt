@@ -1,7 +1,7 @@
 -- The polynomials 0 and y^j as lists.
 use Rattle.std.proofs.Common.{◌≡◌, ℕ, ◌<◌, ◌≤◌, cond, ◌&&◌, eqb, ◌⊎◌, List, [], length, get_or, set, replicate, sym, refl, ap, ◌∙◌, inl, inr, arith, length-set, get_or-set_other, get_or-set_same}
 use lib.ListN.{length-replicate, get_or-replicate}
-use Rattle.std.proofs.lemmas.Bool.{cases_eq, cond_true, cond_false, eq-eqb, ne_eqb, and_from, and_left, and_right}
+use Rattle.std.proofs.lemmas.Bool.{cases_eq, cond-true, cond-false, eq-eqb, ne_eqb, and_from, and_left, and_right}
 use Rattle.bivariate.specs.Made.{made}
 use Rattle.bivariate.specs.Combinations.{zero_of, y_power_of}
 use Rattle.bivariate.proofs.Upto.{made_is, made_at, made_same, length_made}
@@ -32,13 +32,13 @@ abbrev pub unit_at : ℕ → ℕ → ℕ → ℕ
 unit_at j c i = cond (eqb c j && eqb i 0) 1 0
 
 pub unit_here : (j c i : ℕ) → c ≡ j → i ≡ 0 → unit_at j c i ≡ 1
-unit_here j c i p q = cond_true (eqb c j && eqb i 0) 1 0 (and_from (eqb c j) (eqb i 0) (eq-eqb c j p) (eq-eqb i 0 q))
+unit_here j c i p q = cond-true (eqb c j && eqb i 0) 1 0 (and_from (eqb c j) (eqb i 0) (eq-eqb c j p) (eq-eqb i 0 q))
 
 pub unit_other_row : (j c i : ℕ) → (c ≡ j → ⊥) → unit_at j c i ≡ 0
-unit_other_row j c i p = cond_false (eqb c j && eqb i 0) 1 0 (and_left (eqb c j) (eqb i 0) (ne_eqb c j p))
+unit_other_row j c i p = cond-false (eqb c j && eqb i 0) 1 0 (and_left (eqb c j) (eqb i 0) (ne_eqb c j p))
 
 pub unit_other_place : (j c i : ℕ) → (i ≡ 0 → ⊥) → unit_at j c i ≡ 0
-unit_other_place j c i p = cond_false (eqb c j && eqb i 0) 1 0 (and_right (eqb c j) (eqb i 0) (ne_eqb i 0 p))
+unit_other_place j c i p = cond-false (eqb c j && eqb i 0) 1 0 (and_right (eqb c j) (eqb i 0) (ne_eqb i 0 p))
 
 module _ (j : ℕ) where
   -- row j: 1 and then zeros

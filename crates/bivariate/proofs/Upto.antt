@@ -3,7 +3,7 @@ use Rattle.std.proofs.Common.{◌≡◌, ℕ, ◌+◌, ◌<◌, ◌≤◌, cond,
 use Rattle.std.specs.List.{range_with_len}
 use Rattle.std.proofs.lemmas.List.FromFn.{length-map-range_with_len, get_or-map-range_with_len, fill_by_all}
 use Rattle.std.proofs.lemmas.List.{get_or_past}
-use Rattle.std.proofs.lemmas.Bool.{cases_lt, cases_eq, cond_true, cond_false, lt-ltb, le-ltb}
+use Rattle.std.proofs.lemmas.Bool.{cases_lt, cases_eq, cond-true, cond-false, lt-ltb, le-ltb}
 use Rattle.bivariate.specs.Made.{made}
 
 module _ {X : Type 0} (f : ℕ → X) where
@@ -77,10 +77,10 @@ module _ {X : Type 0} (d : X) (f : ℕ → X) (was : List X) where
 
 -- the choice by a test of order
 pub pick_below : {X : Type 0} (a b : ℕ) (x y : X) → a < b → cond (ltb a b) x y ≡ x
-pick_below a b x y h = cond_true (ltb a b) x y (lt-ltb a b h)
+pick_below a b x y h = cond-true (ltb a b) x y (lt-ltb a b h)
 
 pub pick_above : {X : Type 0} (a b : ℕ) (x y : X) → b ≤ a → cond (ltb a b) x y ≡ y
-pick_above a b x y h = cond_false (ltb a b) x y (le-ltb a b h)
+pick_above a b x y h = cond-false (ltb a b) x y (le-ltb a b h)
 
 -- a choice between equals
 pub pick_same : {X : Type 0} (a b : ℕ) (x y z : X) → (a < b → x ≡ z) → (b ≤ a → y ≡ z) → cond (ltb a b) x y ≡ z

@@ -1,5 +1,6 @@
 // Polynomials in x and y in fixed arrays over a finite field, and the steps that interpolation and the
 // search for roots are made of. A row holds the coefficients of one power of y, lowest power of x first.
+#![tactic(auto)]
 
 pub mod combinations;
 pub mod discrepancies;

@@ -36,7 +36,7 @@ module _ (p : Plan) (m : Meaning) (law : Lawful (operations m)) (heard list work
   sized = interpolants.sized p m law same heard q serves.0 serves.1
 
   weight_small : weight_of p < 64
-  weight_small = let h : p.n ≤ 64 = p.nHigh in let k : 2 ≤ p.n = p.nLow in omega arith
+  weight_small = let h : p.n ≤ 64 = p.n_high in let k : 2 ≤ p.n = p.n_low in omega arith
 
   module _ (l bound degree tested : ℕ) (cs : List (List ℕ)) (el : l ≡ p.l) (eb : bound ≡ width_of p) (ed : degree ≡ weight_of p) (finds : Finds m q l bound degree cs tested) where
     -- the roots that the search finds
@@ -47,7 +47,7 @@ module _ (p : Plan) (m : Meaning) (law : Lawful (operations m)) (heard list work
         el
         (subst (λ n. Finds m q l n (weight_of p) cs tested) eb (subst (λ n. Finds m q l bound n cs tested) ed finds))
         law
-        p.lHigh
+        p.l_high
         (facts.bound_high p)
         weight_small
         sized
@@ -55,7 +55,7 @@ module _ (p : Plan) (m : Meaning) (law : Lawful (operations m)) (heard list work
 
     -- there are at most seven candidates
     pub tested_few : tested ≤ 7
-    tested_few = let f = found.few in let h : p.l ≤ 8 = p.lHigh in omega arith
+    tested_few = let f = found.few in let h : p.l ≤ 8 = p.l_high in omega arith
 
     -- so many words fit into the list
     pub words_fit : (words n : ℕ) → words ≤ tested → n ≡ p.n → words * n ≤ length list
@@ -84,7 +84,7 @@ module _ (p : Plan) (m : Meaning) (law : Lawful (operations m)) (heard list work
           subst (Interpolates p m law heard) (sym is) (interpolants.interpolates p m law same heard (polynomial_of (operations m) law q) serves.0)
 
       dimension : suc (weight_of p) ≡ p.n - p.t
-      dimension = let k : p.t < p.n = p.tHigh in omega arith
+      dimension = let k : p.t < p.n = p.t_high in omega arith
 
       candidates : Tested p m law (polynomial_in p m law workspace') tested
       candidates =

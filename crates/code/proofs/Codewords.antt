@@ -1,8 +1,8 @@
 -- The words of polynomials: those of letters are the words of the code, and one word comes from one polynomial.
 use Rattle.std.proofs.Common.{◌≡◌, ℕ, suc, ◌-◌, ◌<◌, ◌≤◌, cond, ltb, ◌⊎◌, List, map, length, get_or, take, sym, ap, ◌∙◌, subst, inl, inr, arith}
 use mathlib.Core.Path.{fun_ext}
-use Rattle.std.proofs.lemmas.List.{get_or-take, length-take-le, ext_get_or, get_or_map, get_or_past, length-map}
-use Rattle.std.proofs.lemmas.Bool.{cases_lt, cond_true, cond_false, lt-ltb, le-ltb}
+use Rattle.std.proofs.lemmas.List.{get_or-take, length-take-le, ext_get_or, get_or-map, get_or_past, length-map}
+use Rattle.std.proofs.lemmas.Bool.{cases_lt, cond-true, cond-false, lt-ltb, le-ltb}
 use Rattle.algebra.specs.Operations.{Operations, Lawful}
 use Rattle.algebra.specs.Ring.{CommRing}
 use Rattle.algebra.specs.Elements.{Elem, element_ring, into}
@@ -34,8 +34,8 @@ module _ (p : Plan) (m : Meaning) (f : List ℕ) where
   pub evaluated_at : (i : ℕ) → i < p.n → get_or (evaluated_of p m f) i 0 ≡ letter_of p m f i
   unfolding evaluated_of
   evaluated_at i h =
-      made_at (λ i. _) 64 i 0 (let k : p.n ≤ 64 = p.nHigh in omega arith)
-      ∙ cond_true (ltb i p.n) (letter_of p m f i) 0 (lt-ltb i p.n h)
+      made_at (λ i. _) 64 i 0 (let k : p.n ≤ 64 = p.n_high in omega arith)
+      ∙ cond-true (ltb i p.n) (letter_of p m f i) 0 (lt-ltb i p.n h)
 
   -- the rest of the array is 0
   pub evaluated_past : (i : ℕ) → p.n ≤ i → get_or (evaluated_of p m f) i 0 ≡ 0
@@ -43,7 +43,7 @@ module _ (p : Plan) (m : Meaning) (f : List ℕ) where
   evaluated_past i h = go (cases_lt i 64)
     where
       go : (i < 64) ⊎ (64 ≤ i) → ◌≡◌ {A = ℕ} (get_or (made 64 (λ i. cond (ltb i p.n) (letter_of p m f i) 0)) i 0) 0
-      go (inl k) = made_at (λ i. _) 64 i 0 k ∙ cond_false (ltb i p.n) (letter_of p m f i) 0 (le-ltb i p.n h)
+      go (inl k) = made_at (λ i. _) 64 i 0 k ∙ cond-false (ltb i p.n) (letter_of p m f i) 0 (le-ltb i p.n h)
       go (inr k) = made_past (λ i. _) 64 i 0 k
 
   -- the word in the array
@@ -52,7 +52,7 @@ module _ (p : Plan) (m : Meaning) (f : List ℕ) where
 
   pub word_length : length word_of ≡ p.n
   word_length =
-      length-take-le p.n (evaluated_of p m f) (let k : p.n ≤ 64 = p.nHigh in let e = evaluated_length in omega arith)
+      length-take-le p.n (evaluated_of p m f) (let k : p.n ≤ 64 = p.n_high in let e = evaluated_length in omega arith)
 
   pub word_at : (i : ℕ) → i < p.n → get_or word_of i 0 ≡ letter_of p m f i
   word_at i h = get_or-take p.n (evaluated_of p m f) i 0 h ∙ evaluated_at i h
@@ -153,7 +153,7 @@ module _ (p : Plan) (m : Meaning) (law : Lawful (operations m)) (same : p.size �
 
   pub series_below : (f : List ℕ) → Polynomial m (p.n - p.t) f → Below R (suc (weight_of p)) (series f)
   series_below f b i h =
-      ap (into o law) (get_or_past f i 0 (let e = b.0 in let k : p.t < p.n = p.tHigh in omega arith)) ∙ into_zero o law
+      ap (into o law) (get_or_past f i 0 (let e = b.0 in let k : p.t < p.n = p.t_high in omega arith)) ∙ into_zero o law
 
   -- where the word agrees with the word heard, the polynomial goes through the point
   pub goes_through : (f w heard : List ℕ) (i : ℕ)
@@ -162,7 +162,7 @@ module _ (p : Plan) (m : Meaning) (law : Lawful (operations m)) (same : p.size �
       → get_or w i 0 ≡ get_or heard i 0
       → eval R (suc (weight_of p)) (series f) (points p m law i) ≡ ordinates p m law heard i
   goes_through f w heard i v h e =
-      let long : suc (weight_of p) ≡ length f = let b = v.polynomial.0 in let k : p.t < p.n = p.tHigh in omega arith in
+      let long : suc (weight_of p) ≡ length f = let b = v.polynomial.0 in let k : p.t < p.n = p.t_high in omega arith in
       ap (λ d. eval R d (series f) (points p m law i)) long
       ∙ sym (elementary.value_into m law f (get_or (support_of p) i 0) (elementary.everywhere m (elementary.zero_is m law) f v.polynomial.1) (α_element i h))
       ∙ ap (into o law) (sym (letter_value f i h) ∙ ap (λ x. quotient_of m x (get_or (multipliers_of p) i 0)) (sym (v.values i h) ∙ e))
@@ -175,7 +175,7 @@ module _ (p : Plan) (m : Meaning) (law : Lawful (operations m)) (same : p.size �
   lift_series f = fun_ext (λ i. go i (cases_lt i (length f)))
     where
       go : (i : ℕ) → (i < length f) ⊎ (length f ≤ i) → from_list R (lift f) i ≡ series f i
-      go i (inl h) = get_or_map (into o law) f i 0 R.zero h
+      go i (inl h) = get_or-map (into o law) f i 0 R.zero h
       go i (inr h) =
           get_or_past (lift f) i R.zero (let e : length (lift f) ≡ length f = length-map f (into o law) in omega arith)
           ∙ sym (ap (into o law) (get_or_past f i 0 h) ∙ into_zero o law)
@@ -191,6 +191,6 @@ module _ (p : Plan) (m : Meaning) (law : Lawful (operations m)) (same : p.size �
       (n ∙ l)
       (λ i h.
       let k : i < length f = omega arith in
-      get_or_map (λ (a : Elem o). a.0) (lift f) i R.zero 0 (omega arith)
-      ∙ ap (λ (a : Elem o). a.0) (get_or_map (into o law) f i 0 R.zero k)
+      get_or-map (λ (a : Elem o). a.0) (lift f) i R.zero 0 (omega arith)
+      ∙ ap (λ (a : Elem o). a.0) (get_or-map (into o law) f i 0 R.zero k)
       ∙ number_into o law (get_or f i 0) (es i k))

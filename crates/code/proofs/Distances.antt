@@ -1,7 +1,7 @@
 -- The loop that counts the places where two words differ.
 use Rattle.std.proofs.Common.{◌≡◌, ℕ, ◌+◌, ◌<◌, ◌≤◌, Bool, ◌&&◌, eqb, List, length, get_or, take, drop, Decides, sym, ap, ◌∙◌, subst, ap₂, ⊎_elim, arith}
 use Rattle.std.proofs.lemmas.List.{drop_more, drop_all}
-use Rattle.std.proofs.lemmas.Bool.{cases_Bool, cond_true, cond_false, and_parts, and_from}
+use Rattle.std.proofs.lemmas.Bool.{cases_Bool, cond-true, cond-false, and_parts, and_from}
 use Rattle.field.specs.Meaning.{Meaning}
 use Rattle.plan.specs.declared.Plan.{Plan}
 use Rattle.code.specs.Codes.{Letters}
@@ -11,8 +11,8 @@ use Rattle.code.specs.Listing.{mismatch, distance}
 mismatch_high : (a b : ℕ) → mismatch a b ≤ 1
 mismatch_high a b =
     ⊎_elim
-    (λ e. let h : mismatch a b ≡ 0 = cond_true (eqb a b) 0 1 e in omega arith)
-    (λ e. let h : mismatch a b ≡ 1 = cond_false (eqb a b) 0 1 e in omega arith)
+    (λ e. let h : mismatch a b ≡ 0 = cond-true (eqb a b) 0 1 e in omega arith)
+    (λ e. let h : mismatch a b ≡ 1 = cond-false (eqb a b) 0 1 e in omega arith)
     (cases_Bool (eqb a b))
 
 module _ (a b : List ℕ) where

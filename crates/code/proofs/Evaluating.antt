@@ -25,7 +25,7 @@ module _ (p : Plan) (m : Meaning) (f : List ℕ) where
       i
       word
       v
-      (let q : length (replicate {A = ℕ} 64 0) ≡ 64 = length-replicate {A = ℕ} 64 0 in let k : p.n ≤ 64 = p.nHigh in omega arith)
+      (let q : length (replicate {A = ℕ} 64 0) ≡ 64 = length-replicate {A = ℕ} 64 0 in let k : p.n ≤ 64 = p.n_high in omega arith)
       u
       (e ∙ sym (pick_below i p.n (letter_of p m f i) 0 (omega arith)))
 

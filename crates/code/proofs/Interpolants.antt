@@ -81,7 +81,7 @@ module _ (p : Plan) (m : Meaning) (law : Lawful (operations m)) (same : p.size �
       }
 
   weight_small : weight_of p * 8 < 2 ^ 64
-  weight_small = let h : p.n ≤ 64 = p.nHigh in omega arith
+  weight_small = let h : p.n ≤ 64 = p.n_high in omega arith
 
   -- the interpolation of the word heard finds a polynomial
   pub serves : (q : List (List ℕ)) (answer : Bool)
@@ -93,7 +93,7 @@ module _ (p : Plan) (m : Meaning) (law : Lawful (operations m)) (same : p.size �
       let found : answer ≡ true
       = i.exists
       law
-      p.lHigh
+      p.l_high
       (facts.bound_high p)
       weight_small
       suited
@@ -107,7 +107,7 @@ module _ (p : Plan) (m : Meaning) (law : Lawful (operations m)) (same : p.size �
       (subst
       (λ (n : ℕ). n * (p.k * (p.k + 1) / 2) + weight_of p * (p.l * (p.l - 1) / 2) < p.l * width_of p)
       (sym (places.lifted_length p m law same heard 0 p.n)) p.solvable)) in
-      let r = i.found found law p.lHigh (facts.bound_high p) weight_small suited in
+      let r = i.found found law p.l_high (facts.bound_high p) weight_small suited in
       (more (suc r.0) heard_places (polynomial_of o law q) r.1.below r.1.serves, r.1.elements)
 
   module _ (q : List (List ℕ)) (s : Serves (polynomial_of o law q)) (es : (c i : ℕ) → get_or (get_or q c []) i 0 < m.size) where

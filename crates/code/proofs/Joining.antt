@@ -1,6 +1,6 @@
 -- The loop that writes words to a list one after the other.
-use Rattle.std.proofs.Common.{◌≡◌, ℕ, ◌+◌, ◌-◌, ◌*◌, ◌<◌, ◌≤◌, List, [], ◌∷◌, ◌++◌, map, length, get_or, take, drop, sym, refl, ap, ◌∙◌, ap₂, add_mul, mul-le-mul, one_mul, zero_mul, arith, length-append}
-use Rattle.std.proofs.lemmas.List.{append_assoc, append_nil, map_more, take_at, drop_at, drop-drop}
+use Rattle.std.proofs.Common.{◌≡◌, ℕ, ◌+◌, ◌-◌, ◌*◌, ◌<◌, ◌≤◌, List, [], ◌∷◌, ◌++◌, map, length, get_or, take, drop, sym, refl, ap, ◌∙◌, ap₂, add-mul, mul-le-mul, one-mul, zero-mul, arith, length-append}
+use Rattle.std.proofs.lemmas.List.{append_assoc, append-nil, map_more, take_at, drop_at, drop-drop}
 use Rattle.code.specs.Listing.{joined}
 
 pub joined_append : (xs ys : List (List ℕ)) → joined (xs ++ ys) ≡ joined xs ++ joined ys
@@ -23,7 +23,7 @@ module _ (list : List ℕ) (words : List (List ℕ)) (n : ℕ) where
   Put i xs = (xs ≡ joined (map (take n) (take i words)) ++ drop (i * n) list) × (length (joined (map (take n) (take i words))) ≡ i * n)
 
   pub put_none : Put 0 list
-  put_none = let z : 0 ≡ 0 * n = sym (zero_mul n) in (ap (λ k. drop k list) z, z)
+  put_none = let z : 0 ≡ 0 * n = sym (zero-mul n) in (ap (λ k. drop k list) z, z)
 
   -- one word more
   pub put_more : (i : ℕ) (xs ys word : List ℕ)
@@ -45,7 +45,7 @@ module _ (list : List ℕ) (words : List (List ℕ)) (n : ℕ) where
       so_far = joined (map (take n) (take i words))
 
       up : (i + 1) * n ≡ i * n + n
-      up = add_mul i 1 n ∙ ap (λ k. i * n + k) (one_mul n)
+      up = add-mul i 1 n ∙ ap (λ k. i * n + k) (one-mul n)
 
       front : take (i * n) xs ≡ joined (map (take n) (take i words))
       front = ap (take (i * n)) put.0 ∙ take_at (joined (map (take n) (take i words))) (drop (i * n) list) (i * n) put.1
@@ -60,7 +60,7 @@ module _ (list : List ℕ) (words : List (List ℕ)) (n : ℕ) where
       next =
           ap joined (map_more (take n) words i [] h)
           ∙ joined_append (map (take n) (take i words)) (take n (get_or words i []) ∷ [])
-          ∙ ap (λ us. joined (map (take n) (take i words)) ++ us) (append_nil (take n (get_or words i [])) ∙ ap (take n) (sym e))
+          ∙ ap (λ us. joined (map (take n) (take i words)) ++ us) (append-nil (take n (get_or words i [])) ∙ ap (take n) (sym e))
 
   pub put_all : (i count : ℕ) (xs : List ℕ)
       → count ≤ i
@@ -74,7 +74,7 @@ module _ (list : List ℕ) (words : List (List ℕ)) (n : ℕ) where
   -- a word before the last fits
   pub put_fits : (i count : ℕ) → i < count → count * n ≤ length list → i * n + n ≤ length list
   put_fits i count h fit =
-      let up : (i + 1) * n ≡ i * n + 1 * n = add_mul i 1 n in
-      let o : 1 * n ≡ n = one_mul n in
+      let up : (i + 1) * n ≡ i * n + 1 * n = add-mul i 1 n in
+      let o : 1 * n ≡ n = one-mul n in
       let m : (i + 1) * n ≤ count * n = mul-le-mul {n₁ = i + 1} {m₁ = n} {n₂ = count} {m₂ = n} (omega arith) (omega arith) in
       omega arith

@@ -1,6 +1,6 @@
 -- The steps of the loop that keeps the words near the word heard.
 use Rattle.std.proofs.Common.{◌≡◌, ℕ, ◌+◌, ◌<◌, ◌≤◌, ◌⊎◌, List, [], ◌∷◌, ◌++◌, length, take, drop, set, sym, refl, ap, ◌∙◌, subst, inl, inr, ⊎_elim, arith, length-append, length-set}
-use Rattle.std.proofs.lemmas.List.{take_more_set, drop_set_lt, drop-drop}
+use Rattle.std.proofs.lemmas.List.{take_more_set, drop-set-lt, drop-drop}
 use Rattle.std.proofs.lemmas.Bool.{cases_eq}
 use Rattle.algebra.specs.Members.{Member, NoRepetition}
 use Rattle.algebra.proofs.ListMembers.{member_left, member_last, member_append, no_repetition_append}
@@ -99,7 +99,7 @@ module _ (p : Plan) (m : Meaning) (heard : List ℕ) (cs : List (List ℕ)) wher
               (kept_more i (take count words) k.0 (subst (Near p m heard) e near)),
           omega arith,
           length-set words count w ∙ k.2,
-          drop_set_lt (count + 1) words count w (omega arith)
+          drop-set-lt (count + 1) words count w (omega arith)
               ∙ sym (drop-drop 1 count words)
               ∙ ap (drop 1) k.3
               ∙ drop-drop 1 count was,

@@ -1,5 +1,5 @@
 -- The words of a list, read back from the list that holds them one after the other.
-use Rattle.std.proofs.Common.{◌≡◌, ℕ, zero, suc, ◌+◌, ◌*◌, ◌<◌, ◌≤◌, List, [], ◌∷◌, ◌++◌, map, length, get_or, take, drop, sym, refl, ap, ◌∙◌, subst, ap₂, inl, inr, add_mul, one_mul, zero_mul, arith, length-append}
+use Rattle.std.proofs.Common.{◌≡◌, ℕ, zero, suc, ◌+◌, ◌*◌, ◌<◌, ◌≤◌, List, [], ◌∷◌, ◌++◌, map, length, get_or, take, drop, sym, refl, ap, ◌∙◌, subst, ap₂, inl, inr, add-mul, one-mul, zero-mul, arith, length-append}
 use Rattle.std.specs.List.{range_with_len}
 use Rattle.std.proofs.lemmas.List.FromFn.{fill_by_all}
 use Rattle.std.proofs.lemmas.List.{append_assoc, take_at, drop_at, drop-drop}
@@ -12,7 +12,7 @@ use Rattle.code.specs.Listing.{joined, Listed}
 next : (i n : ℕ) → suc i * n ≡ n + i * n
 next i n =
     let e : suc i ≡ 1 + i = omega arith in
-    ap (λ k. k * n) e ∙ add_mul 1 i n ∙ ap (λ k. k + i * n) (one_mul n)
+    ap (λ k. k * n) e ∙ add-mul 1 i n ∙ ap (λ k. k + i * n) (one-mul n)
 
 module _ (n : ℕ) (rest : List ℕ) where
   word_at : (ws : List (List ℕ))
@@ -23,7 +23,7 @@ module _ (n : ℕ) (rest : List ℕ) where
   word_at [] long i h = absurd (omega (arith, h))
   word_at (w ∷ ws) long zero h =
       sym
-      (ap (λ k. take n (drop k (joined (w ∷ ws) ++ rest))) (zero_mul n)
+      (ap (λ k. take n (drop k (joined (w ∷ ws) ++ rest))) (zero-mul n)
       ∙ ap (take n) (append_assoc w (joined ws) rest)
       ∙ take_at w (joined ws ++ rest) n (long w (inl refl)))
   word_at (w ∷ ws) long (suc i) h =
@@ -33,7 +33,7 @@ module _ (n : ℕ) (rest : List ℕ) where
       ∙ ap₂ (λ k xs. take n (drop k xs)) (sym (next i n)) (sym (append_assoc w (joined ws) rest))
 
 joined_length : (n : ℕ) (ws : List (List ℕ)) → ((w : List ℕ) → Member w ws → length w ≡ n) → length (joined ws) ≡ length ws * n
-joined_length n [] long = sym (zero_mul n)
+joined_length n [] long = sym (zero-mul n)
 joined_length n (w ∷ ws) long =
     length-append w (joined ws)
     ∙ ap₂ ◌+◌ (long w (inl refl)) (joined_length n ws (λ v k. long v (inr k)))

@@ -2,7 +2,7 @@
 use Rattle.std.proofs.Common.{◌≡◌, ℕ, suc, ◌-◌, ◌<◌, ◌≤◌, ◌⊎◌, ◌↔◌, List, [], ◌∷◌, map, length, get_or, take, sym, refl, ap, ◌∙◌, subst, ap₂, inl, inr, arith}
 use Rattle.std.specs.Ordering.{is_lt, nat_cmp}
 use Rattle.std.specs.List.Sorted.{IsPermutation, IsSortedWithin}
-use Rattle.std.proofs.lemmas.List.{get_or-take, get_or_map, length-map, length-take-le}
+use Rattle.std.proofs.lemmas.List.{get_or-take, get_or-map, length-map, length-take-le}
 use Rattle.std.proofs.lemmas.List.Sorted.{IsPermutation-sym}
 use Rattle.std.proofs.ByRecursion.{has_shuffled}
 use Rattle.std.proofs.lemmas.Bool.{cases_lt}
@@ -63,7 +63,7 @@ module _ (p : Plan) (m : Meaning) (law : Lawful (operations m)) (same : p.size �
     root i = map (λ (a : Elem o). a.0) (get_or roots i [])
 
     dimension : suc (weight_of p) ≡ p.n - p.t
-    dimension = let k : p.t < p.n = p.tHigh in omega arith
+    dimension = let k : p.t < p.n = p.t_high in omega arith
 
     candidate_is : (i : ℕ) → i < length roots → candidate i ≡ root i
     candidate_is i h = ap (λ n. take n (get_or cs i [])) (sym dimension) ∙ coefficients i h
@@ -75,7 +75,7 @@ module _ (p : Plan) (m : Meaning) (law : Lawful (operations m)) (same : p.size �
           let l : length (map (λ (a : Elem o). a.0) r) ≡ length r = length-map r (λ (a : Elem o). a.0) in
           subst
           (λ (x : ℕ). x < m.size)
-          (sym (get_or_map (λ (a : Elem o). a.0) r i R.zero 0 (omega arith)))
+          (sym (get_or-map (λ (a : Elem o). a.0) r i R.zero 0 (omega arith)))
           (get_or r i R.zero).1,
     )
 
@@ -205,10 +205,10 @@ module _ (p : Plan) (m : Meaning) (law : Lawful (operations m)) (same : p.size �
             let s : i < length zs = omega arith in
             subst
             (λ v. Earlier v (get_or (map (take p.n) zs) j []))
-            (sym (get_or_map (take p.n) zs i [] [] s))
+            (sym (get_or-map (take p.n) zs i [] [] s))
             (subst
             (Earlier (take p.n (get_or zs i [])))
-            (sym (get_or_map (take p.n) zs j [] [] t))
+            (sym (get_or-map (take p.n) zs j [] [] t))
             (word_earlier (get_or zs i []) (get_or zs j []) (λ k. padded j k t) (sorted_earlier zs 64 tall different up i j h t))))
 
         -- the sorted words are those near the word heard
@@ -217,4 +217,4 @@ module _ (p : Plan) (m : Meaning) (law : Lawful (operations m)) (same : p.size �
 
         -- each word is n letters long
         pub nearby_long : (i : ℕ) → i < length zs → length (take p.n (get_or zs i [])) ≡ p.n
-        nearby_long i h = length-take-le p.n (get_or zs i []) (let e = tall i h in let k : p.n ≤ 64 = p.nHigh in omega arith)
+        nearby_long i h = length-take-le p.n (get_or zs i []) (let e = tall i h in let k : p.n ≤ 64 = p.n_high in omega arith)

@@ -1,6 +1,6 @@
 -- What stands at a place of the extended content, as it is worked out there.
 use Rattle.std.proofs.Common.{◌≡◌, ℕ, ◌<◌, ◌≤◌, ltb, List, length, get_or, sym, ap, ◌∙◌, ap₂}
-use Rattle.std.proofs.lemmas.Bool.{cond_true, cond_false, lt-ltb, le-ltb}
+use Rattle.std.proofs.lemmas.Bool.{cond-true, cond-false, lt-ltb, le-ltb}
 use Rattle.field.specs.Meaning.{Meaning, product_of}
 use Rattle.poly.specs.Newton.{nested_of}
 use Rattle.code.specs.Extension.{letter_at}
@@ -9,7 +9,7 @@ module _ (m : Meaning) (α β content d : List ℕ) (i : ℕ) where
   -- the content's own letter
   pub within : i < length content → get_or content i 0 ≡ letter_at m α β content d i
   unfolding letter_at
-  within h = sym (cond_true (ltb i (length content)) _ _ (lt-ltb i (length content) h))
+  within h = sym (cond-true (ltb i (length content)) _ _ (lt-ltb i (length content) h))
 
   -- after the content, the multiplier times the value of Newton's form
   pub after : (support multipliers : List ℕ) (value letter : ℕ)
@@ -23,4 +23,4 @@ module _ (m : Meaning) (α β content d : List ℕ) (i : ℕ) where
   after support multipliers value letter h a b v l =
       l
       ∙ ap₂ (λ xs y. product_of m (get_or xs i 0) y) b (v ∙ ap (λ xs. nested_of m xs d (get_or xs i 0)) a)
-      ∙ sym (cond_false (ltb i (length content)) _ _ (le-ltb i (length content) h))
+      ∙ sym (cond-false (ltb i (length content)) _ _ (le-ltb i (length content) h))

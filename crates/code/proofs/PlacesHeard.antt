@@ -1,10 +1,10 @@
 -- The places of the word heard: they suit the interpolation, stand at distinct points, and a polynomial goes through those
 -- where its word agrees with the word heard.
-use Rattle.std.proofs.Common.{◌≡◌, ℕ, zero, suc, ◌+◌, ◌-◌, ◌*◌, ◌<◌, ◌≤◌, true, false, cond, eqb, ◌⊎◌, List, [], ◌∷◌, map, length, get_or, sym, refl, ap, ◌∙◌, subst, ap₂, inl, inr, mul-le-mul, mul_zero, mul_one, mul-suc, mul_add, arith}
+use Rattle.std.proofs.Common.{◌≡◌, ℕ, zero, suc, ◌+◌, ◌-◌, ◌*◌, ◌<◌, ◌≤◌, true, false, cond, eqb, ◌⊎◌, List, [], ◌∷◌, map, length, get_or, sym, refl, ap, ◌∙◌, subst, ap₂, inl, inr, mul-le-mul, mul-zero, mul-one, mul-suc, mul-add, arith}
 use native.Mathlib.Nat.{mul-sub}
 use Rattle.std.specs.List.{range_with_len}
 use Rattle.std.proofs.lemmas.List.FromFn.{fill_by_all}
-use Rattle.std.proofs.lemmas.Bool.{cases_eq, cases_Bool, eqb-true, cond_true, cond_false}
+use Rattle.std.proofs.lemmas.Bool.{cases_eq, cases_Bool, eqb-true, cond-true, cond-false}
 use Rattle.algebra.specs.Operations.{Operations, Lawful}
 use Rattle.algebra.specs.Ring.{CommRing, Field}
 use Rattle.algebra.specs.Elements.{Elem, element_ring, elements, into}
@@ -51,8 +51,8 @@ module _ (p : Plan) (m : Meaning) (law : Lawful (operations m)) (same : p.size �
     record {
       abscissa = support_element a (omega arith);
       ordinate = elementary.quotient_element m law _ _;
-      multiplicity = let k : p.k ≤ 4 = p.kHigh in omega arith;
-      few = p.lHigh;
+      multiplicity = let k : p.k ≤ 4 = p.k_high in omega arith;
+      few = p.l_high;
       short = facts.bound_high p;
     },
     suited (a + 1) n (omega arith),
@@ -117,7 +117,7 @@ module _ (p : Plan) (m : Meaning) (law : Lawful (operations m)) (same : p.size �
 
         -- the multiples of k are those of the two summands
         spread : (b : ℕ) → p.k * (b + apart (a + 1) n) ≡ p.k * b + p.k * apart (a + 1) n
-        spread b = mul_add p.k b (apart (a + 1) n)
+        spread b = mul-add p.k b (apart (a + 1) n)
 
         go : (eqb (get_or word a 0) (get_or heard a 0) ≡ true) ⊎ (eqb (get_or word a 0) (get_or heard a 0) ≡ false)
             → (c : Dec (eval R d f (points p m law a) ≡ ordinates p m law heard a))
@@ -133,8 +133,8 @@ module _ (p : Plan) (m : Meaning) (law : Lawful (operations m)) (same : p.size �
         go (inr t) (no h) =
             let up : p.k * suc n ≡ p.k * n + p.k = mul-suc p.k n in
             let b : ℕ = cond (eqb (get_or word a 0) (get_or heard a 0)) 0 1 in
-            let one : b ≡ 1 = cond_false (eqb (get_or word a 0) (get_or heard a 0)) 0 1 t in
-            let k : p.k * b ≡ p.k = ap (λ x. p.k * x) one ∙ mul_one p.k in
+            let one : b ≡ 1 = cond-false (eqb (get_or word a 0) (get_or heard a 0)) 0 1 t in
+            let k : p.k * b ≡ p.k = ap (λ x. p.k * x) one ∙ mul-one p.k in
             let s : p.k * (b + apart (a + 1) n) ≡ p.k * b + p.k * apart (a + 1) n = spread b in
             omega arith
 
@@ -142,7 +142,7 @@ module _ (p : Plan) (m : Meaning) (law : Lawful (operations m)) (same : p.size �
     pub agreed : (a n : ℕ)
         → ((i : ℕ) → i < a + n → Agrees i)
         → p.k * n ≤ places.agreement F d f (lifted a n) + p.k * apart a n
-    agreed a zero agree = let z : p.k * 0 ≡ 0 = mul_zero p.k in omega arith
+    agreed a zero agree = let z : p.k * 0 ≡ 0 = mul-zero p.k in omega arith
     agreed a (suc n) agree = one_more a n (agree a (omega arith)) (agreed (a + 1) n (λ i h. agree i (omega arith)))
 
     -- a word within the plan's errors agrees at places whose multiplicities sum to D or more

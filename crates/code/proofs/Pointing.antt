@@ -22,7 +22,7 @@ module _ (p : Plan) (m : Meaning) (heard : List ℕ) where
       → Pointed (i + 1) (set xs i x)
   pointed_more i n xs x en h k e =
       let l : length xs ≡ 64 = k.1 in
-      let high : p.n ≤ 64 = p.nHigh in (
+      let high : p.n ≤ 64 = p.n_high in (
         take_more_set xs i x (omega arith)
             ∙ ap (λ ys. ys ++ (x ∷ [])) k.0
             ∙ ap (λ y. map (place_at p m heard) (range_with_len 0 i) ++ (y ∷ [])) e

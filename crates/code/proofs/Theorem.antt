@@ -1,7 +1,7 @@
 -- The extension of a content is the one list that begins with it and has the code's form.
 use Rattle.std.proofs.Common.{◌≡◌, ℕ, ◌-◌, ◌<◌, ◌≤◌, ltb, List, ◌++◌, length, get_or, take, sym, ap, ◌∙◌, subst, ap₂, ⊎_elim, arith}
 use Rattle.std.proofs.lemmas.List.{length-take-le, get_or-take, ext_get_or, take_at}
-use Rattle.std.proofs.lemmas.Bool.{cases_lt, cond_true, cond_false, lt-ltb, le-ltb}
+use Rattle.std.proofs.lemmas.Bool.{cases_lt, cond-true, cond-false, lt-ltb, le-ltb}
 use Rattle.algebra.specs.Operations.{Lawful}
 use Rattle.field.specs.Meaning.{Meaning, Element, operations, product_of}
 use Rattle.plan.specs.declared.Plan.{Plan}
@@ -72,11 +72,11 @@ module _ (p : Plan) (m : Meaning) (law : Lawful (operations m)) (same : p.size �
 
   e_within : (i : ℕ) → i < length c → get_or e i 0 ≡ get_or c i 0
   unfolding extension_of letter_at
-  e_within i h = get_d_made p.n _ i (omega (arith, short)) ∙ cond_true (ltb i (length c)) _ _ (lt-ltb i (length c) h)
+  e_within i h = get_d_made p.n _ i (omega (arith, short)) ∙ cond-true (ltb i (length c)) _ _ (lt-ltb i (length c) h)
 
   e_after : (i : ℕ) → i < p.n → length c ≤ i → get_or e i 0 ≡ product_of m (get_or β i 0) (nested_of m α (coefficients_of m α s) (get_or α i 0))
   unfolding extension_of letter_at
-  e_after i l h = get_d_made p.n _ i l ∙ cond_false (ltb i (length c)) _ _ (le-ltb i (length c) h)
+  e_after i l h = get_d_made p.n _ i l ∙ cond-false (ltb i (length c)) _ _ (le-ltb i (length c) h)
 
   α_element : (i : ℕ) → i < p.n → get_or α i 0 < m.size
   α_element i h = omega (arith, facts.element p i h)

@@ -1,9 +1,9 @@
 -- Which words of n lie wholly inside a list: those before the quotient of its length by n.
-use Rattle.std.proofs.Common.{◌≡◌, ℕ, ◌+◌, ◌*◌, ◌/◌, ◌<◌, ◌≤◌, ap, ◌∙◌, subst, div-lt_iff_lt-mul, add_mul, one_mul, le-div_iff_mul-le, arith}
+use Rattle.std.proofs.Common.{◌≡◌, ℕ, ◌+◌, ◌*◌, ◌/◌, ◌<◌, ◌≤◌, ap, ◌∙◌, subst, div-lt_iff_lt-mul, add-mul, one-mul, le-div_iff_mul-le, arith}
 
 -- the end of word i
 ends : (i n : ℕ) → (i + 1) * n ≡ i * n + n
-ends i n = add_mul i 1 n ∙ ap (λ x. i * n + x) (one_mul n)
+ends i n = add-mul i 1 n ∙ ap (λ x. i * n + x) (one-mul n)
 
 pub inside : (long n i : ℕ) → 2 ≤ n → i < long / n → i * n + n ≤ long
 inside long n i h k = subst (λ x. x ≤ long) (ends i n) ((le-div_iff_mul-le {k = n} {x = i + 1} {y = long} (omega arith)).0 (omega arith))

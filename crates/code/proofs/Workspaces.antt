@@ -2,7 +2,7 @@
 use Rattle.std.proofs.Common.{◌≡◌, ℕ, ◌+◌, ◌-◌, ◌*◌, ◌/◌, ◌%◌, ◌<◌, ◌≤◌, min, true, false, cond, ◌&&◌, ltb, ◌⊎◌, List, [], length, get_or, drop, sym, ap, ◌∙◌, subst, inl, inr, mod-lt, mul_comm, div-lt_iff_lt-mul, div-add-mod', arith}
 use mathlib.Core.Path.{fun_ext}
 use Rattle.std.proofs.lemmas.List.{ext_get_or, get_or-drop, length-drop}
-use Rattle.std.proofs.lemmas.Bool.{cases_lt, cond_true, cond_false, lt-ltb, le-ltb, and_from, and_left, and_right}
+use Rattle.std.proofs.lemmas.Bool.{cases_lt, cond-true, cond-false, lt-ltb, le-ltb, and_from, and_left, and_right}
 use Rattle.algebra.specs.Operations.{Operations, Lawful}
 use Rattle.algebra.specs.Elements.{into}
 use Rattle.field.specs.Meaning.{Meaning, operations}
@@ -20,7 +20,7 @@ module _ (p : Plan) (m : Meaning) (q : List (List ℕ)) (was : List ℕ) (room :
   full = flat_of q p.l (width_of p) was
 
   rows : min p.l 8 ≡ p.l
-  rows = let h : p.l ≤ 8 = p.lHigh in omega arith
+  rows = let h : p.l ≤ 8 = p.l_high in omega arith
 
   columns : min (width_of p) 256 ≡ width_of p
   columns = let h = facts.bound_high p in omega arith
@@ -42,17 +42,17 @@ module _ (p : Plan) (m : Meaning) (q : List (List ℕ)) (was : List ℕ) (room :
     where
       go : (c < p.l) ⊎ (p.l ≤ c) → (i < width_of p) ⊎ (width_of p ≤ i) → coefficient_at p full c i ≡ get_or (get_or q c []) i 0
       go (inl h) (inl k) =
-          cond_true
+          cond-true
           (ltb c p.l && ltb i (width_of p))
           (get_or full (c * width_of p + i) 0)
           0
           (and_from (ltb c p.l) (ltb i (width_of p)) (lt-ltb c p.l h) (lt-ltb i (width_of p) k))
           ∙ entry c i h k
       go (inr h) k =
-          cond_false (ltb c p.l && ltb i (width_of p)) (get_or full (c * width_of p + i) 0) 0 (and_left (ltb c p.l) (ltb i (width_of p)) (le-ltb c p.l h))
+          cond-false (ltb c p.l && ltb i (width_of p)) (get_or full (c * width_of p + i) 0) 0 (and_left (ltb c p.l) (ltb i (width_of p)) (le-ltb c p.l h))
           ∙ sym (sized.narrow c i h)
       go (inl h) (inr k) =
-          cond_false (ltb c p.l && ltb i (width_of p)) (get_or full (c * width_of p + i) 0) 0 (and_right (ltb c p.l) (ltb i (width_of p)) (le-ltb i (width_of p) k))
+          cond-false (ltb c p.l && ltb i (width_of p)) (get_or full (c * width_of p + i) 0) 0 (and_right (ltb c p.l) (ltb i (width_of p)) (le-ltb i (width_of p) k))
           ∙ sym (sized.within c i (past c i k))
 
   pub written : (law : Lawful (operations m)) → polynomial_in p m law full ≡ polynomial_of (operations m) law q

@@ -1,4 +1,6 @@
 // The code of a plan: whether a word is in it, the word that a content begins, and the words of a list.
+#![tactic(auto)]
+
 mod candidates;
 mod encode;
 mod extension;

@@ -1,4 +1,6 @@
 // The worked examples of docs/CODES.md and docs/LISTING.md, run.
+#![tactic(auto)]
+
 #[cfg(test)]
 mod tests {
     use code::{CodeFault, Listing, check, list, pick, write};

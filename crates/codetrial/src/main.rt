@@ -1,4 +1,6 @@
 // Trial of check and write against a search through all polynomials, for small codes over both kinds of field.
+#![tactic(auto)]
+
 use code::{check, write};
 use field::{BinaryField, Field, PrimeField};
 use plan::{Parameters, Plan};

@@ -1,4 +1,6 @@
 // Commands over text: which command the words of a line spell, the numbers among them, and carrying it out.
+#![tactic(auto)]
+
 mod run;
 mod words;
 

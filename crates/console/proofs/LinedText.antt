@@ -1,5 +1,5 @@
 -- One word more of a list that is written word by word.
-use Rattle.std.proofs.Common.{◌≡◌, ℕ, ◌+◌, ◌*◌, List, [], ◌∷◌, ◌++◌, take, drop, codes, sym, refl, ap, ◌∙◌, append_assoc, append_nil, arith}
+use Rattle.std.proofs.Common.{◌≡◌, ℕ, ◌+◌, ◌*◌, List, [], ◌∷◌, ◌++◌, take, drop, codes, sym, refl, ap, ◌∙◌, append_assoc, append-nil, arith}
 use Rattle.std.proofs.lemmas.List.FromFn.{map-range_with_len_more}
 use Rattle.console.specs.Spaced.{spaced, words_of, lined}
 
@@ -14,4 +14,4 @@ lined_more n list i word e =
     sym
     (ap lined (map-range_with_len_more (λ k. take n (drop (k * n) list)) 0 i i (omega arith) ∙ ap (λ w. words_of n i list ++ (w ∷ [])) (sym e))
     ∙ lined_append (words_of n i list) (word ∷ [])
-    ∙ ap (λ t. lined (words_of n i list) ++ t) (append_nil ((10 ∷ codes "word") ++ spaced word)))
+    ∙ ap (λ t. lined (words_of n i list) ++ t) (append-nil ((10 ∷ codes "word") ++ spaced word)))

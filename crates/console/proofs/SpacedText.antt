@@ -1,5 +1,5 @@
 -- One letter more of a word that is written letter by letter.
-use Rattle.std.proofs.Common.{◌≡◌, ℕ, ◌+◌, ◌<◌, List, [], ◌∷◌, ◌++◌, length, get_or, take, codes, decimal, sym, refl, ap, ◌∙◌, append_assoc, append_nil}
+use Rattle.std.proofs.Common.{◌≡◌, ℕ, ◌+◌, ◌<◌, List, [], ◌∷◌, ◌++◌, length, get_or, take, codes, decimal, sym, refl, ap, ◌∙◌, append_assoc, append-nil}
 use Rattle.std.proofs.lemmas.List.{take_more}
 use Rattle.console.specs.Spaced.{spaced}
 
@@ -9,4 +9,4 @@ spaced_append (x ∷ xs) ys = ap (λ t. (codes " " ++ decimal x) ++ t) (spaced_a
 
 pub spaced_more : (xs : List ℕ) (i : ℕ) → i < length xs → spaced (take i xs) ++ (codes " " ++ decimal (get_or xs i 0)) ≡ spaced (take (i + 1) xs)
 spaced_more xs i h =
-    sym (ap spaced (take_more xs i 0 h) ∙ spaced_append (take i xs) (get_or xs i 0 ∷ []) ∙ ap (λ t. spaced (take i xs) ++ t) (append_nil (codes " " ++ decimal (get_or xs i 0))))
+    sym (ap spaced (take_more xs i 0 h) ∙ spaced_append (take i xs) (get_or xs i 0 ∷ []) ∙ ap (λ t. spaced (take i xs) ++ t) (append-nil (codes " " ++ decimal (get_or xs i 0))))

@@ -1,5 +1,5 @@
 -- The word that was written and the words that were listed, as an answer holds them.
-use Rattle.std.proofs.Common.{◌≡◌, ℕ, ◌+◌, ◌*◌, ◌<◌, ◌≤◌, List, length, take, sym, ap, ◌∙◌, subst, ap₂, subst₂, add_mul, mul-le-mul, one_mul, arith}
+use Rattle.std.proofs.Common.{◌≡◌, ℕ, ◌+◌, ◌*◌, ◌<◌, ◌≤◌, List, length, take, sym, ap, ◌∙◌, subst, ap₂, subst₂, add-mul, mul-le-mul, one-mul, arith}
 use Rattle.code.specs.Codes.{WordOf, Written}
 use Rattle.code.specs.Listing.{Nearby, Listed, Tested, Decoded, polynomial_in}
 use Rattle.code.proofs.ListedWords.{words_listed, words_fit}
@@ -17,8 +17,8 @@ word_out p m content before after w n written same length whole =
 -- a word before the last lies inside the list
 pub word_inside : (i count n : ℕ) → i < count → count * n ≤ 448 → i * n + n ≤ 448
 word_inside i count n h fit =
-    let up : (i + 1) * n ≡ i * n + 1 * n = add_mul i 1 n in
-    let o : 1 * n ≡ n = one_mul n in
+    let up : (i + 1) * n ≡ i * n + 1 * n = add-mul i 1 n in
+    let o : 1 * n ≡ n = one-mul n in
     let m : (i + 1) * n ≤ count * n = mul-le-mul {n₁ = i + 1} {m₁ = n} {n₂ = count} {m₂ = n} (omega arith) (omega arith) in
     omega arith
 

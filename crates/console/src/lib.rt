@@ -1,5 +1,7 @@
 // The console's state and answers: the field chosen and the plan made last, what each command does to them, and how
 // the answers are written.
+#![tactic(auto)]
+
 pub mod answer;
 pub mod state;
 pub mod word;

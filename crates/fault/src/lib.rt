@@ -1,5 +1,7 @@
 // Refusals: what every layer of the receiver answers where it cannot do what it was asked.
 // A refusal is a number, the layer that gives it, and the place at fault (0 where none is named).
+#![tactic(auto)]
+
 ghost use Rattle.std.specs.Prelude.{◌≡◌, codes};
 ghost use Rattle.fault.specs.Refusals.{name_of, shown_as};
 

@@ -1,5 +1,5 @@
 -- Shifting and reducing in turn gives the remainder of the product.
-use Rattle.std.proofs.Common.{◌≡◌, ℕ, zero, suc, ◌+◌, ◌-◌, ◌*◌, ◌/◌, ◌%◌, ◌^◌, ◌<◌, ◌≤◌, Bool, true, false, T, eqb, ltb, ◌⊎◌, List, [], ◌∷◌, sym, refl, ap, ◌∙◌, subst, inl, inr, one_mul, zero_mul, div-one, arith, eqb→eq, ltb→lt}
+use Rattle.std.proofs.Common.{◌≡◌, ℕ, zero, suc, ◌+◌, ◌-◌, ◌*◌, ◌/◌, ◌%◌, ◌^◌, ◌<◌, ◌≤◌, Bool, true, false, T, eqb, ltb, ◌⊎◌, List, [], ◌∷◌, sym, refl, ap, ◌∙◌, subst, inl, inr, one-mul, zero-mul, div-one, arith, eqb→eq, ltb→lt}
 use lib.Bits.{bit_xor, xor_shr, xor_self, xor_lt, xor_zero_r}
 use Rattle.std.proofs.lemmas.Nat.{shr-shr, mod_below, pow_pos}
 use native.Mathlib.Nat.{sub-zero}
@@ -85,12 +85,12 @@ horner_none m a b =
 
 -- what a bit chooses
 pub bit_takes : (b a : ℕ) → b % 2 ≡ 1 → a ≡ b % 2 * a
-bit_takes b a e = sym (ap (λ x. x * a) e ∙ one_mul a)
+bit_takes b a e = sym (ap (λ x. x * a) e ∙ one-mul a)
 
 pub bit_leaves : (b a : ℕ) → (b % 2 ≡ 1 → ⊥) → 0 ≡ b % 2 * a
 bit_leaves b a n =
     let e : b % 2 ≡ 0 = omega (arith, mod_below b 2 (omega arith)) in
-    sym (ap (λ x. x * a) e ∙ zero_mul a)
+    sym (ap (λ x. x * a) e ∙ zero-mul a)
 
 -- the invariant of the loop after the turn at i − 1, from the values that the turn leaves
 pub horner_again : (m i a b product twice term modulus : ℕ) → 2 ≤ m → m ≤ 8 → 0 < i → i ≤ m → a < 2 ^ m → modulus ≡ modulus_of m → product < 2 ^ m → product ≡ horner m (m - i) a (b / 2 ^ i) → twice ≡ doubled modulus m product → term ≡ b / 2 ^ (i - 1) % 2 * a → (bit_xor twice term < 2 ^ m) × (bit_xor twice term ≡ horner m (m - (i - 1)) a (b / 2 ^ (i - 1)))
@@ -106,8 +106,8 @@ horner_again m i a b product twice term modulus low high some within ha listed s
     bit_small c = go (c % 2) (mod_below c 2 (omega arith))
       where
         go : (r : ℕ) → r < 2 → r * a < 2 ^ m
-        go zero h = subst (λ x. x < 2 ^ m) (sym (zero_mul a)) (pow_pos m)
-        go (suc zero) h = subst (λ x. x < 2 ^ m) (sym (one_mul a)) ha
+        go zero h = subst (λ x. x < 2 ^ m) (sym (zero-mul a)) (pow_pos m)
+        go (suc zero) h = subst (λ x. x < 2 ^ m) (sym (one-mul a)) ha
         go (suc (suc r)) h = absurd (omega (arith, h))
 
 -- after the last bit the product stands

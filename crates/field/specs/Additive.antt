@@ -1,6 +1,6 @@
 -- Functions that take the exclusive or to the exclusive or are known by their values at the powers of 2.
 use Rattle.std.specs.Prelude.{◌≡◌, ℕ, zero, suc, ◌+◌, ◌*◌, ◌/◌, ◌%◌, ◌^◌, ◌<◌, ◌≤◌, ◌⊎◌, bit_xor, refl}
-use Rattle.std.proofs.Common.{sym, ap, ◌∙◌, subst, inl, inr, zero_mul, one_mul, pow-suc, arith, pow_pos}
+use Rattle.std.proofs.Common.{sym, ap, ◌∙◌, subst, inl, inr, zero-mul, one-mul, pow-suc, arith, pow_pos}
 use Rattle.std.proofs.Math.Decide.{dec_lt}
 use Rattle.std.specs.Int.Bits.{xor_zero_l, xor_zero_r, xor_assoc, xor_self, xor_shifted, differ}
 use Rattle.std.proofs.lemmas.Nat.{shr_split, div_below, mod_below, xor_comm, xor_lt, xor_shr, xor_mod}
@@ -30,8 +30,8 @@ by_bits P none join (suc m) at a h =
     subst P (sym (bit_split m a)) (join (a / 2 ^ m * 2 ^ m) (a % 2 ^ m) (high (top_bit m a h)) (by_bits P none join m (λ i l. at i (omega arith)) (a % 2 ^ m) (mod_below a (2 ^ m) (pow_pos m))))
   where
     high : (a / 2 ^ m ≡ 0) ⊎ (a / 2 ^ m ≡ 1) → P (a / 2 ^ m * 2 ^ m)
-    high (inl e) = subst P (sym (ap (λ q. q * 2 ^ m) e ∙ zero_mul (2 ^ m))) none
-    high (inr e) = subst P (sym (ap (λ q. q * 2 ^ m) e ∙ one_mul (2 ^ m))) (at m (omega arith))
+    high (inl e) = subst P (sym (ap (λ q. q * 2 ^ m) e ∙ zero-mul (2 ^ m))) none
+    high (inr e) = subst P (sym (ap (λ q. q * 2 ^ m) e ∙ one-mul (2 ^ m))) (at m (omega arith))
 
 -- two additive functions that agree at the powers of 2 agree
 pub agree : (f g : ℕ → ℕ) → Additive f → Additive g → (m : ℕ) → ((i : ℕ) → i < m → f (2 ^ i) ≡ g (2 ^ i)) → (a : ℕ) → a < 2 ^ m → f a ≡ g a

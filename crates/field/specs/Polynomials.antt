@@ -1,6 +1,6 @@
 -- Products and remainders of polynomials over two elements are additive in each argument.
 use Rattle.std.specs.Prelude.{◌≡◌, ℕ, zero, suc, ◌+◌, ◌-◌, ◌*◌, ◌/◌, ◌%◌, ◌^◌, ◌<◌, ◌≤◌, ◌⊎◌, bit_xor, refl}
-use Rattle.std.proofs.Common.{sym, ap, ◌∙◌, subst, inl, inr, zero_mul, one_mul, mul_comm, mul_zero, arith, pow_pos}
+use Rattle.std.proofs.Common.{sym, ap, ◌∙◌, subst, inl, inr, zero-mul, one-mul, mul_comm, mul-zero, arith, pow_pos}
 use Rattle.std.specs.Int.Bits.{xor_zero_l, xor_zero_r, xor_assoc, xor_self}
 use Rattle.std.proofs.lemmas.Nat.{mod_below, xor_comm, xor_shr, xor_mod, xor_block}
 use Rattle.field.specs.Binary.{carryless, remainder, modulus_of, times}
@@ -23,18 +23,18 @@ pub bit_times : (c : ℕ) → Additive (λ a. a % 2 * c)
 bit_times c a b = ap (λ x. x * c) (xor_mod a b 1) ∙ go (bit_of a) (bit_of b)
   where
     go : (a % 2 ≡ 0) ⊎ (a % 2 ≡ 1) → (b % 2 ≡ 0) ⊎ (b % 2 ≡ 1) → bit_xor (a % 2) (b % 2) * c ≡ bit_xor (a % 2 * c) (b % 2 * c)
-    go (inl p) (inl q) = rw (p, q) (zero_mul c ∙ sym (xor_self (0 * c)))
-    go (inl p) (inr q) = rw (p, q) (sym (ap (λ x. bit_xor x (1 * c)) (zero_mul c) ∙ xor_zero_l (1 * c)))
-    go (inr p) (inl q) = rw (p, q) (sym (ap (bit_xor (1 * c)) (zero_mul c) ∙ xor_zero_r (1 * c)))
-    go (inr p) (inr q) = rw (p, q) (zero_mul c ∙ sym (xor_self (1 * c)))
+    go (inl p) (inl q) = rw (p, q) (zero-mul c ∙ sym (xor_self (0 * c)))
+    go (inl p) (inr q) = rw (p, q) (sym (ap (λ x. bit_xor x (1 * c)) (zero-mul c) ∙ xor_zero_l (1 * c)))
+    go (inr p) (inl q) = rw (p, q) (sym (ap (bit_xor (1 * c)) (zero-mul c) ∙ xor_zero_r (1 * c)))
+    go (inr p) (inr q) = rw (p, q) (zero-mul c ∙ sym (xor_self (1 * c)))
 
 -- and in the number that is multiplied
 pub times_bit : (b : ℕ) → Additive (λ c. b % 2 * c)
 times_bit b c d = go (bit_of b)
   where
     go : (b % 2 ≡ 0) ⊎ (b % 2 ≡ 1) → b % 2 * bit_xor c d ≡ bit_xor (b % 2 * c) (b % 2 * d)
-    go (inl p) = rw p (zero_mul (bit_xor c d) ∙ sym (ap (λ x. bit_xor x (0 * d)) (zero_mul c) ∙ ap (bit_xor 0) (zero_mul d) ∙ xor_zero_l 0))
-    go (inr p) = rw p (one_mul (bit_xor c d) ∙ sym (ap (λ x. bit_xor x (1 * d)) (one_mul c) ∙ ap (bit_xor c) (one_mul d)))
+    go (inl p) = rw p (zero-mul (bit_xor c d) ∙ sym (ap (λ x. bit_xor x (0 * d)) (zero-mul c) ∙ ap (bit_xor 0) (zero-mul d) ∙ xor_zero_l 0))
+    go (inr p) = rw p (one-mul (bit_xor c d) ∙ sym (ap (λ x. bit_xor x (1 * d)) (one-mul c) ∙ ap (bit_xor c) (one-mul d)))
 
 pub double_xor : Additive (λ a. 2 * a)
 double_xor a b =

@@ -1,5 +1,7 @@
 // Finite fields of at most 256 elements behind one interface: the trait says what a field means and
 // which laws it keeps, and the two kinds, prime and binary, are proved to keep them.
+#![tactic(auto)]
+
 ghost use Rattle.std.specs.Prelude.{◌≡◌, ℕ, ◌<◌, ◌≤◌, ◌≢◌};
 ghost use Rattle.field.specs.Meaning.{Meaning, Element, Letter, sum_of, negative_of, product_of, inverse_of};
 

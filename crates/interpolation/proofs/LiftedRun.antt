@@ -1,5 +1,5 @@
 -- The method along its three loops: over the places, over the powers of y and over the powers of x.
-use Rattle.std.proofs.Common.{◌≡◌, ℕ, zero, suc, ◌+◌, ◌-◌, ◌*◌, ◌^◌, ◌<◌, ◌≤◌, min, ◌⊎◌, List, [], ◌∷◌, ◌++◌, length, get_or, take, sym, ap, ◌∙◌, subst, subst₂, inl, inr, mul_add, arith}
+use Rattle.std.proofs.Common.{◌≡◌, ℕ, zero, suc, ◌+◌, ◌-◌, ◌*◌, ◌^◌, ◌<◌, ◌≤◌, min, ◌⊎◌, List, [], ◌∷◌, ◌++◌, length, get_or, take, sym, ap, ◌∙◌, subst, subst₂, inl, inr, mul-add, arith}
 use Rattle.algebra.specs.Operations.{Operations, Lawful}
 use Rattle.algebra.specs.Elements.{Elem, element_ring, elements, into}
 use Rattle.algebra.specs.Places as points
@@ -146,7 +146,7 @@ module _ (m : Meaning) (law : Lawful (operations m)) (l bound weight : ℕ) (few
       fits : min (weight * j) (2 ^ 64 - 1) ≡ weight * j
       fits =
           let s : j + (8 - j) ≡ 8 = omega arith in
-          let e : weight * (j + (8 - j)) ≡ weight * j + weight * (8 - j) = mul_add weight j (8 - j) in
+          let e : weight * (j + (8 - j)) ≡ weight * j + weight * (8 - j) = mul-add weight j (8 - j) in
           let f : weight * (j + (8 - j)) ≡ weight * 8 = ap (λ n. weight * n) s in
           let x : ℕ = weight * j in
           let y : ℕ = weight * (8 - j) in

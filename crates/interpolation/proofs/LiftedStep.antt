@@ -1,7 +1,7 @@
 -- What one step of the program is over the elements of the field: a step of the method.
 use Rattle.std.proofs.Common.{◌≡◌, ℕ, suc, ◌+◌, ◌*◌, ◌<◌, ◌≤◌, ltb, ◌⊎◌, List, [], length, get_or, set, Some, None, Option, unwrap_or, sym, refl, ap, ◌∙◌, subst, ap₂, subst₂, inl, inr, arith, get_or-set_other, get_or-set_same}
 use native.Mathlib.Decide.{ℕ_discrete}
-use Rattle.std.proofs.lemmas.Bool.{cases_lt, cond_true, lt-ltb, and_from}
+use Rattle.std.proofs.lemmas.Bool.{cases_lt, cond-true, lt-ltb, and_from}
 use Rattle.algebra.specs.Operations.{Operations, Lawful}
 use Rattle.algebra.specs.Ring.{CommRing, zero_mul}
 use Rattle.algebra.proofs.Coefficients.{zero_at}
@@ -26,7 +26,7 @@ pub inverse_some : (m : Meaning) (n : ℕ) → n < m.size → (n ≡ 0 → ⊥) 
 inverse_some m n h k =
     ap
     (λ x. unwrap_or x 0)
-    (cond_true _ (Some (m.inverse n)) None (and_from (ltb 0 n) (ltb n m.size) (lt-ltb 0 n (omega arith)) (lt-ltb n m.size h)))
+    (cond-true _ (Some (m.inverse n)) None (and_from (ltb 0 n) (ltb n m.size) (lt-ltb 0 n (omega arith)) (lt-ltb n m.size h)))
 
 module _ (m : Meaning) (law : Lawful (operations m)) (a b u r l bound weight : ℕ) (rows : List (List (List ℕ))) (degrees : List ℕ) (cs : List (Condition (Elem (operations m)))) (served : Served m a b u r l bound) (es : RowsOf (operations m) rows) (inv : Invariant (element_ring (operations m) law) weight bound l cs (state_of (operations m) law rows degrees)) where
   abbrev o : Operations

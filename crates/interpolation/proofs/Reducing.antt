@@ -1,7 +1,7 @@
 -- The rows after the others are cleared by the pivot and the pivot is multiplied by x − a, one by one.
 use Rattle.std.proofs.Common.{◌≡◌, ℕ, suc, ◌+◌, ◌*◌, ◌<◌, ◌≤◌, cond, eqb, ltb, ◌⊎◌, List, [], length, get_or, set, sym, refl, ap, ◌∙◌, inl, inr, mul_comm, arith, length-set, get_or-set_other, get_or-set_same}
 use Rattle.std.proofs.lemmas.List.{get_or_past}
-use Rattle.std.proofs.lemmas.Bool.{cases_lt, cond_false, ne_eqb}
+use Rattle.std.proofs.lemmas.Bool.{cases_lt, cond-false, ne_eqb}
 use Rattle.field.specs.Meaning.{Meaning, product_of}
 use Rattle.bivariate.specs.Combinations.{row_length, discrepancy_of, minus_polynomial_of, times_polynomial_of}
 use Rattle.bivariate.proofs.Upto.{length_made, made_at, pick_below, pick_above}
@@ -142,7 +142,7 @@ pub cleared_by : (m : Meaning) (source : List (List ℕ)) (factor l bound weight
     → (d ≡ 0 → ⊥)
     → cleared_row_of m source factor l bound weight d q ≡ minus_polynomial_of m (product_of m d factor) l bound weight q source
 cleared_by m source factor l bound weight d q h =
-    cond_false (eqb d 0) q (minus_polynomial_of m (product_of m d factor) l bound weight q source) (ne_eqb d 0 h)
+    cond-false (eqb d 0) q (minus_polynomial_of m (product_of m d factor) l bound weight q source) (ne_eqb d 0 h)
 
 -- the calls of the reduction, one after the other
 pub reduced_by : (m : Meaning) (p : ℕ) (discrepancies degrees : List ℕ) (a l bound weight : ℕ) (rows : List (List (List ℕ))) (factor : ℕ) (cleared result : List (List (List ℕ)))

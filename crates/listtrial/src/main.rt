@@ -1,5 +1,7 @@
 // Trial of list against a search through all polynomials, for small codes over both kinds of field. The words of a code
 // are made once and put in order here, so that neither the words nor their order come from what is tried.
+#![tactic(auto)]
+
 use code::list;
 use field::{BinaryField, Field, FieldFault, PrimeField};
 use plan::{Parameters, Plan};

@@ -6,13 +6,13 @@ use Rattle.plan.specs.declared.Plan.{Plan}
 
 module _ (p : Plan) where
   pub bound_low : 1 ≤ bound_of p.n p.w p.k
-  bound_low = let h : 1 ≤ p.n - p.w = omega arith in mul-le-mul {n₁ = 1} {m₁ = 1} p.kLow h
+  bound_low = let h : 1 ≤ p.n - p.w = omega arith in mul-le-mul {n₁ = 1} {m₁ = 1} p.k_low h
 
   pub bound_high : bound_of p.n p.w p.k ≤ 256
-  bound_high = let h : p.n - p.w ≤ 64 = omega arith in mul-le-mul {n₂ = 4} {m₂ = 64} p.kHigh h
+  bound_high = let h : p.n - p.w ≤ 64 = omega arith in mul-le-mul {n₂ = 4} {m₂ = 64} p.k_high h
 
   pub list_high : (p.l - 1) * p.n ≤ 448
-  list_high = let h : p.l - 1 ≤ 7 = omega arith in mul-le-mul {n₂ = 7} {m₂ = 64} h p.nHigh
+  list_high = let h : p.l - 1 ≤ 7 = omega arith in mul-le-mul {n₂ = 7} {m₂ = 64} h p.n_high
 
   pub support_length : length (take p.n p.support) ≡ p.n
   support_length = length-take-le p.n p.support (omega arith)

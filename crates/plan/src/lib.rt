@@ -1,5 +1,7 @@
 // A plan of an alternant code: its numbers, its support and its multipliers, checked once.
 // The facts that decoding leans on stand in the type, so no later layer has to test them again.
+#![tactic(auto)]
+
 ghost use Rattle.std.specs.Prelude.{◌≡◌, ℕ, ◌<◌, ◌≤◌, length, ◌≢◌, slice_index};
 ghost use Rattle.plan.specs.Numbers.{Solvable};
 
@@ -22,20 +24,20 @@ pub struct Plan {
     l: usize,
     support: [u16; 64],
     multipliers: [u16; 64],
-    ghost nLow: { 2 ≤ n },
-    ghost nHigh: { n ≤ 64 },
-    ghost sizeLow: { 2 ≤ size },
-    ghost sizeHigh: { size ≤ 256 },
-    ghost tLow: { 1 ≤ t },
-    ghost tHigh: { t < n },
-    ghost wHigh: { w < n },
-    ghost kLow: { 1 ≤ k },
-    ghost kHigh: { k ≤ 4 },
-    ghost lLow: { k < l },
-    ghost lHigh: { l ≤ 8 },
+    ghost n_low: { 2 ≤ n },
+    ghost n_high: { n ≤ 64 },
+    ghost size_low: { 2 ≤ size },
+    ghost size_high: { size ≤ 256 },
+    ghost t_low: { 1 ≤ t },
+    ghost t_high: { t < n },
+    ghost w_high: { w < n },
+    ghost k_low: { 1 ≤ k },
+    ghost k_high: { k ≤ 4 },
+    ghost l_low: { k < l },
+    ghost l_high: { l ≤ 8 },
     ghost solvable: { Solvable n t w k l },
-    ghost supportLong: { length support ≡ 64 },
-    ghost multipliersLong: { length multipliers ≡ 64 },
+    ghost support_long: { length support ≡ 64 },
+    ghost multipliers_long: { length multipliers ≡ 64 },
     ghost elements: { (i : ℕ) → i < n → slice_index support i < size },
     ghost distinct: { (i j : ℕ) → i < j → j < n → slice_index support i ≢ slice_index support j },
     ghost nonzero: { (i : ℕ) → i < n → 1 ≤ slice_index multipliers i },

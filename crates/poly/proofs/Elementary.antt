@@ -2,7 +2,7 @@
 use Rattle.std.proofs.Common.{◌≡◌, ℕ, zero, suc, ◌+◌, ◌-◌, ◌<◌, ◌≤◌, ◌&&◌, ltb, List, [], ◌∷◌, length, get_or, drop, Some, None, Option, sym, refl, ap, ◌∙◌, subst, ⊎_elim, arith}
 use native.Mathlib.Decide.{ℕ_discrete}
 use Rattle.std.proofs.lemmas.List.{get_or_past, drop_more, drop_all}
-use Rattle.std.proofs.lemmas.Bool.{cases_eq, cases_lt, and_from, and_left, and_parts, cond_true, cond_false, cond_both, lt-ltb, le-ltb, ltb-true}
+use Rattle.std.proofs.lemmas.Bool.{cases_eq, cases_lt, and_from, and_left, and_parts, cond-true, cond-false, cond_both, lt-ltb, le-ltb, ltb-true}
 use Rattle.algebra.specs.Operations.{Operations, Lawful}
 use Rattle.algebra.specs.Ring.{sub, mul_zero}
 use Rattle.algebra.specs.Elements.{Elem, zero_element, inverse_element, element_ring, elements, into}
@@ -75,14 +75,14 @@ module _ (m : Meaning) (law : Lawful (operations m)) where
 
   pub sum_into : (a b : ℕ) → a < m.size → b < m.size → ⌈ sum_of m a b ⌉ ≡ ⌈ a ⌉ ⊕ ⌈ b ⌉
   sum_into a b h k =
-      ap ⌈◌⌉ (cond_true (ltb a m.size && ltb b m.size) (m.sum a b) 0 (and_from _ _ (lt-ltb a m.size h) (lt-ltb b m.size k))) ∙ into_sum o law a b h k
+      ap ⌈◌⌉ (cond-true (ltb a m.size && ltb b m.size) (m.sum a b) 0 (and_from _ _ (lt-ltb a m.size h) (lt-ltb b m.size k))) ∙ into_sum o law a b h k
 
   pub product_into : (a b : ℕ) → a < m.size → b < m.size → ⌈ product_of m a b ⌉ ≡ ⌈ a ⌉ ⊗ ⌈ b ⌉
   product_into a b h k =
-      ap ⌈◌⌉ (cond_true (ltb a m.size && ltb b m.size) (m.product a b) 0 (and_from _ _ (lt-ltb a m.size h) (lt-ltb b m.size k))) ∙ into_product o law a b h k
+      ap ⌈◌⌉ (cond-true (ltb a m.size && ltb b m.size) (m.product a b) 0 (and_from _ _ (lt-ltb a m.size h) (lt-ltb b m.size k))) ∙ into_product o law a b h k
 
   negative_into : (a : ℕ) → a < m.size → ⌈ negative_of m a ⌉ ≡ ⊖ ⌈ a ⌉
-  negative_into a h = ap ⌈◌⌉ (cond_true (ltb a m.size) (m.negative a) 0 (lt-ltb a m.size h)) ∙ into_negative o law a h
+  negative_into a h = ap ⌈◌⌉ (cond-true (ltb a m.size) (m.negative a) 0 (lt-ltb a m.size h)) ∙ into_negative o law a h
 
   pub difference_element : (a b : ℕ) → difference_of m a b < m.size
   difference_element a b = sum_element a (negative_of m b)
@@ -106,11 +106,11 @@ module _ (m : Meaning) (law : Lawful (operations m)) where
       go (no k) = absurd (k h)
 
   quotient_zero : (a b : ℕ) → b ≡ 0 → quotient_of m a b ≡ 0
-  quotient_zero a b e = ap (times_inverse m a) (cond_false (ltb 0 b && ltb b m.size) (Some (m.inverse b)) None (and_left _ _ (le-ltb 0 b (omega arith))))
+  quotient_zero a b e = ap (times_inverse m a) (cond-false (ltb 0 b && ltb b m.size) (Some (m.inverse b)) None (and_left _ _ (le-ltb 0 b (omega arith))))
 
   -- a quotient by what is not zero
   pub quotient_is : (a b : ℕ) → b < m.size → (b ≡ 0 → ⊥) → quotient_of m a b ≡ product_of m a (m.inverse b)
-  quotient_is a b h k = ap (times_inverse m a) (cond_true (ltb 0 b && ltb b m.size) (Some (m.inverse b)) None (and_from _ _ (lt-ltb 0 b (let p : 0 < b = positive b k in p)) (lt-ltb b m.size h)))
+  quotient_is a b h k = ap (times_inverse m a) (cond-true (ltb 0 b && ltb b m.size) (Some (m.inverse b)) None (and_from _ _ (lt-ltb 0 b (let p : 0 < b = positive b k in p)) (lt-ltb b m.size h)))
     where
       positive : (x : ℕ) → (x ≡ 0 → ⊥) → 0 < x
       positive zero n = absurd (n refl)

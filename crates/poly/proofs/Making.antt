@@ -1,5 +1,5 @@
 -- Lists made from a function of the place, and the loops that make them in place.
-use Rattle.std.proofs.Common.{◌≡◌, ℕ, ◌+◌, ◌<◌, ◌≤◌, ◌≢◌, List, length, get_or, set, sym, refl, ap, ◌∙◌, ⊎_elim, zero_add, arith}
+use Rattle.std.proofs.Common.{◌≡◌, ℕ, ◌+◌, ◌<◌, ◌≤◌, ◌≢◌, List, length, get_or, set, sym, refl, ap, ◌∙◌, ⊎_elim, zero-add, arith}
 use Rattle.std.proofs.lemmas.List.{length-set, get_or-set_same, get_or-set_other, ext_get_or}
 use Rattle.std.proofs.lemmas.Bool.{cases_eq}
 use Rattle.std.proofs.lemmas.List.FromFn.{length-map-range_with_len, get_or-map-range_with_len}
@@ -11,7 +11,7 @@ length_made n f = length-map-range_with_len f 0 n
 
 pub get_d_made : (n : ℕ) (f : ℕ → ℕ) (i : ℕ) → i < n → get_or (made n f) i 0 ≡ f i
 unfolding made
-get_d_made n f i h = get_or-map-range_with_len f 0 n i i 0 h (zero_add i)
+get_d_made n f i h = get_or-map-range_with_len f 0 n i i 0 h (zero-add i)
 
 -- a list of n numbers that are the values of f is made from f
 pub is_made : (n : ℕ) (f : ℕ → ℕ) (xs : List ℕ) → length xs ≡ n → ((i : ℕ) → i < n → get_or xs i 0 ≡ f i) → xs ≡ made n f

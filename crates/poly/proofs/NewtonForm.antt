@@ -1,6 +1,6 @@
 -- The steps of the loops that work out Newton's form.
 use Rattle.std.proofs.Common.{◌≡◌, ℕ, zero, suc, ◌+◌, ◌-◌, ◌<◌, ◌≤◌, cond, ltb, List, length, get_or, set, sym, refl, ap, ◌∙◌, ap₂, ⊎_elim, add-one, arith}
-use Rattle.std.proofs.lemmas.Bool.{cases_eq, cond_true, cond_false, lt-ltb, le-ltb}
+use Rattle.std.proofs.lemmas.Bool.{cases_eq, cond-true, cond-false, lt-ltb, le-ltb}
 use Rattle.field.specs.Meaning.{Meaning, sum_of, product_of}
 use Rattle.poly.specs.Arithmetic.{difference_of, quotient_of, slope_of, nest_of}
 use Rattle.poly.specs.Newton.{made, divided_at, swept_at, sweep_of, reduced, coefficients_of, nested_from, nested_of}
@@ -10,12 +10,12 @@ module _ (m : Meaning) (α : List ℕ) where
   -- up to place j nothing is divided
   pub swept_kept : (d : ℕ → ℕ) (j i : ℕ) → i ≤ j → swept_at m α d j i ≡ d i
   unfolding swept_at
-  swept_kept d j i h = cond_false (ltb j i) _ _ (le-ltb j i h)
+  swept_kept d j i h = cond-false (ltb j i) _ _ (le-ltb j i h)
 
   -- past it each value is
   pub swept_divided : (d : ℕ → ℕ) (j i : ℕ) → j < i → swept_at m α d j i ≡ divided_at m α d j i
   unfolding swept_at
-  swept_divided d j i h = cond_true (ltb j i) _ _ (lt-ltb j i h)
+  swept_divided d j i h = cond-true (ltb j i) _ _ (lt-ltb j i h)
 
   swept_same : (d e : ℕ → ℕ) (j i : ℕ) → d i ≡ e i → d j ≡ e j → swept_at m α d j i ≡ swept_at m α e j i
   unfolding swept_at divided_at

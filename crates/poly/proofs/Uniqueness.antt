@@ -1,5 +1,5 @@
 -- The polynomial with given values at distinct points is Newton's, over numbers.
-use Rattle.std.proofs.Common.{◌≡◌, ℕ, zero, suc, ◌+◌, ◌<◌, ltb, List, length, get_or, sym, ap, ◌∙◌, ap₂, ⊎_elim, zero_add, arith}
+use Rattle.std.proofs.Common.{◌≡◌, ℕ, zero, suc, ◌+◌, ◌<◌, ltb, List, length, get_or, sym, ap, ◌∙◌, ap₂, ⊎_elim, zero-add, arith}
 use mathlib.Core.Path.{fun_ext}
 use Rattle.std.proofs.lemmas.List.{get_or_past, ext_get_or}
 use Rattle.std.proofs.lemmas.Bool.{cases_lt, cases_order, cond_both}
@@ -99,7 +99,7 @@ module _ (m : Meaning) (law : Lawful (operations m)) (α β : List ℕ) (α_elem
 
   from_start : newton_value (elements o law) (length β) (points 0) (values 0) ≡ newton_value (elements o law) (length β) abscissae ordinates
   unfolding reduced
-  from_start = ap₂ (newton_value (elements o law) (length β)) (fun_ext (λ i. ap (λ x. ⌈ get_or α x 0 ⌉) (zero_add i))) (fun_ext (λ i. ap (λ x. ⌈ get_or β x 0 ⌉) (zero_add i)))
+  from_start = ap₂ (newton_value (elements o law) (length β)) (fun_ext (λ i. ap (λ x. ⌈ get_or α x 0 ⌉) (zero-add i))) (fun_ext (λ i. ap (λ x. ⌈ get_or β x 0 ⌉) (zero-add i)))
 
   coefficients : (z : ℕ) → nested_of m α (coefficients_of m α β) z ≡ nested_from m α (λ i. reduced m α β i i) z (length β) 0
   unfolding nested_of coefficients_of

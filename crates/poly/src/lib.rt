@@ -1,6 +1,8 @@
 // Polynomials over a field, by their coefficients and through given points.
 // A list of coefficients or of points counts as followed by zeros, so every call answers for lists
 // of any lengths.
+#![tactic(auto)]
+
 mod arithmetic;
 mod newton;
 mod values;

@@ -1,4 +1,6 @@
 // The receiver's console: reads commands from standard input, one a line, and prints what the library answers.
+#![tactic(auto)]
+
 use command::{passed_over, run_line};
 use console::Console;
 use std::io;

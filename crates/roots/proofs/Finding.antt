@@ -1,6 +1,6 @@
 -- What the search puts down are all roots, each once.
 use Rattle.std.proofs.Common.{◌≡◌, ℕ, suc, ◌+◌, ◌<◌, ◌≤◌, min, List, [], map, length, get_or, take, sym, ap, ◌∙◌, arith}
-use Rattle.std.proofs.lemmas.List.{length-map, get_or_map}
+use Rattle.std.proofs.lemmas.List.{length-map, get_or-map}
 use Rattle.algebra.specs.Operations.{Operations, Lawful}
 use Rattle.algebra.specs.Elements.{Elem, element_ring, elements, into}
 use Rattle.algebra.specs.RootSearch.{Nonzero}
@@ -55,7 +55,7 @@ module _ (m : Meaning) (q : List (List ℕ)) (l bound degree : ℕ) (law : Lawfu
       → take (suc degree) (get_or (roots_of m l bound degree zero_word 0 q) i []) ≡ numbers o (get_or listed i [])
   word_at i h short =
       ap (λ ws. take (suc degree) (get_or ws i [])) words_listed
-      ∙ ap (take (suc degree)) (get_or_map (λ w. placed zero_word 0 (numbers o w)) listed i [] [] h)
+      ∙ ap (take (suc degree)) (get_or-map (λ w. placed zero_word 0 (numbers o w)) listed i [] [] h)
       ∙ placed_read
       (suc degree)
       (numbers o (get_or listed i []))

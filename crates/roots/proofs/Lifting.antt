@@ -1,7 +1,7 @@
 -- The search over numbers is the search over the elements of the field.
 use Rattle.std.proofs.Common.{◌≡◌, ℕ, zero, suc, ◌-◌, ◌*◌, ◌<◌, ◌≤◌, min, true, false, eqb, ◌⊎◌, List, [], ◌∷◌, ◌++◌, map, set, sym, refl, ap, ◌∙◌, subst, ap₂, inl, inr, arith}
-use Rattle.std.proofs.lemmas.List.{map_append}
-use Rattle.std.proofs.lemmas.Bool.{cases_Bool, cases_eq, cond_true, cond_false, eq-eqb, ne_eqb}
+use Rattle.std.proofs.lemmas.List.{map-append}
+use Rattle.std.proofs.lemmas.Bool.{cases_Bool, cases_eq, cond-true, cond-false, eq-eqb, ne_eqb}
 use Rattle.algebra.specs.Operations.{Operations, Lawful}
 use Rattle.algebra.specs.Ring.{CommRing, Field}
 use Rattle.algebra.specs.Elements.{Elem, element_ring, elements, into}
@@ -110,7 +110,7 @@ module _ (m : Meaning) (law : Lawful (operations m)) (l bound : ℕ) (small : l 
     branches_lift f follow (suc n) h =
         joined_suc f n
         ∙ ap₂ ◌++◌ (branches_lift f follow n (λ g k. h g (omega arith))) (h n (omega arith))
-        ∙ sym (map_append (word_of chosen depth) (branches ι follow n) (map (λ w. ι n ∷ w) (follow (ι n))))
+        ∙ sym (map-append (word_of chosen depth) (branches ι follow n) (map (λ w. ι n ∷ w) (follow (ι n))))
         ∙ ap (map (word_of chosen depth)) (sym (branches_suc ι follow n))
 
     module _ (q : List (List ℕ)) (g : ℕ) (h : g < m.size) where
@@ -148,7 +148,7 @@ module _ (m : Meaning) (law : Lawful (operations m)) (l bound : ℕ) (small : l 
               → branch_of m l bound (suc s) chosen depth q g
               ≡ map (word_of chosen depth) (map (λ w. ι g ∷ w) (continuing F l (P q) (ι g) ws))
           go (inl e) =
-              cond_true
+              cond-true
               (eqb (column_value_of m g l q 0) 0)
               (roots_of m l bound s (set chosen depth g) (suc depth) (shifted_of m g l bound (suc s) q))
               []
@@ -159,7 +159,7 @@ module _ (m : Meaning) (law : Lawful (operations m)) (l bound : ℕ) (small : l 
               (λ vs. map (word_of chosen depth) (map (λ w. ι g ∷ w) vs))
               (sym (continuing_yes F l (P q) (ι g) ws (candidate_lift m law q l small z.elements g h e)))
           go (inr e) =
-              cond_false
+              cond-false
               (eqb (column_value_of m g l q 0) 0)
               (roots_of m l bound s (set chosen depth g) (suc depth) (shifted_of m g l bound (suc s) q))
               []

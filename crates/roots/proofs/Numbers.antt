@@ -1,7 +1,7 @@
 -- The search over numbers: its clauses, and what its loops do.
 use Rattle.std.proofs.Common.{◌≡◌, ℕ, zero, suc, ◌+◌, ◌-◌, ◌<◌, ◌≤◌, min, true, false, cond, eqb, ltb, ◌⊎◌, List, [], ◌∷◌, ◌++◌, length, set, sym, refl, ap, ◌∙◌, ap₂, inl, inr, arith, length-append, length-set}
 use Rattle.std.proofs.lemmas.List.{set_past}
-use Rattle.std.proofs.lemmas.Bool.{cases_lt, cond_true, cond_false, eq-eqb, ne_eqb, lt-ltb, le-ltb}
+use Rattle.std.proofs.lemmas.Bool.{cases_lt, cond-true, cond-false, eq-eqb, ne_eqb, lt-ltb, le-ltb}
 use Rattle.field.specs.Meaning.{Meaning}
 use Rattle.bivariate.specs.Roots.{column, all_zero, lower_of, column_value_of, shifted_of}
 use Rattle.roots.specs.Search.{stripped_of, joined, roots_of, put_of, count_of}
@@ -20,12 +20,12 @@ module _ (l : ℕ) where
   pub stripped_step : (n : ℕ) (q : List (List ℕ))
       → all_zero (column q 0) (min l 8) ≡ true
       → stripped_of l (suc n) q ≡ stripped_of l n (lower_of q)
-  stripped_step n q e = stripped_suc n q ∙ cond_true _ (stripped_of l n (lower_of q)) q e
+  stripped_step n q e = stripped_suc n q ∙ cond-true _ (stripped_of l n (lower_of q)) q e
 
   -- no division, where it does not
   pub stripped_stop : (n : ℕ) (q : List (List ℕ)) → all_zero (column q 0) (min l 8) ≡ false → stripped_of l n q ≡ q
   stripped_stop zero q e = stripped_zero q
-  stripped_stop (suc n) q e = stripped_suc n q ∙ cond_false _ (stripped_of l n (lower_of q)) q e
+  stripped_stop (suc n) q e = stripped_suc n q ∙ cond-false _ (stripped_of l n (lower_of q)) q e
 
   -- a turn of the loop of divisions
   pub strip_more : (most i : ℕ) (q q' end : List (List ℕ))
@@ -197,18 +197,18 @@ module _ (count : ℕ) (f : ℕ → List (List ℕ)) (words : List (List ℕ)) w
         counted : (found < 7) ⊎ (7 ≤ found) → cond (ltb found 7) (found + 1) found ≡ count_of found (w ∷ [])
         counted (inl h) =
             let n : found + 1 ≡ count_of found (w ∷ []) = omega arith in
-            cond_true (ltb found 7) (found + 1) found (lt-ltb found 7 h) ∙ n
+            cond-true (ltb found 7) (found + 1) found (lt-ltb found 7 h) ∙ n
         counted (inr h) =
             let n : found ≡ count_of found (w ∷ []) = omega arith in
-            cond_false (ltb found 7) (found + 1) found (le-ltb found 7 h) ∙ n
+            cond-false (ltb found 7) (found + 1) found (le-ltb found 7 h) ∙ n
 
         full : length now ≡ 7
         full = ap length s.1 ∙ put_length count (joined f i) words ∙ long
 
         placed : (found < 7) ⊎ (7 ≤ found) → cond (ltb found 7) (set now found w) now ≡ set now found w
-        placed (inl h) = cond_true (ltb found 7) (set now found w) now (lt-ltb found 7 h)
+        placed (inl h) = cond-true (ltb found 7) (set now found w) now (lt-ltb found 7 h)
         placed (inr h) =
-            cond_false (ltb found 7) (set now found w) now (le-ltb found 7 h)
+            cond-false (ltb found 7) (set now found w) now (le-ltb found 7 h)
             ∙ sym (set_past now found w (omega (arith, full)))
 
 -- the roots that begin with g, as a turn of the search finds them
@@ -220,14 +220,14 @@ module _ (m : Meaning) (l bound degree : ℕ) (chosen : List ℕ) (depth : ℕ) 
       → branch_of m l bound degree chosen depth q g ≡ word ∷ []
   branch_end_yes word e t w =
       ap (λ s. branch_of m l bound s chosen depth q g) e
-      ∙ cond_true _ (set chosen depth g ∷ []) [] (sym t)
+      ∙ cond-true _ (set chosen depth g ∷ []) [] (sym t)
       ∙ ap (λ x. x ∷ []) (sym w)
 
   pub branch_end_no : degree ≡ 0
       → false ≡ all_zero (column_value_of m g l q) (min bound 256)
       → branch_of m l bound degree chosen depth q g ≡ []
   branch_end_no e t =
-      ap (λ s. branch_of m l bound s chosen depth q g) e ∙ cond_false _ (set chosen depth g ∷ []) [] (sym t)
+      ap (λ s. branch_of m l bound s chosen depth q g) e ∙ cond-false _ (set chosen depth g ∷ []) [] (sym t)
 
   -- what follows g one level down
   abbrev below : ℕ → List (List ℕ)
@@ -244,7 +244,7 @@ module _ (m : Meaning) (l bound degree : ℕ) (chosen : List ℕ) (depth : ℕ) 
       let e : degree ≡ suc (degree - 1) = omega arith in
       let up : suc depth ≡ depth + 1 = omega arith in
       ap (λ s. branch_of m l bound s chosen depth q g) e
-      ∙ cond_true _ (below (degree - 1)) [] (eq-eqb (column_value_of m g l q 0) 0 (sym v ∙ z))
+      ∙ cond-true _ (below (degree - 1)) [] (eq-eqb (column_value_of m g l q 0) 0 (sym v ∙ z))
       ∙ ap₂
       (λ d s. roots_of m l bound (degree - 1) (set chosen depth g) d (shifted_of m g l bound s q))
       up
@@ -259,7 +259,7 @@ module _ (m : Meaning) (l bound degree : ℕ) (chosen : List ℕ) (depth : ℕ) 
   branch_on_no value h v z =
       let e : degree ≡ suc (degree - 1) = omega arith in
       ap (λ s. branch_of m l bound s chosen depth q g) e
-      ∙ cond_false _ (below (degree - 1)) [] (ne_eqb (column_value_of m g l q 0) 0 (λ k. z (v ∙ k)))
+      ∙ cond-false _ (below (degree - 1)) [] (ne_eqb (column_value_of m g l q 0) 0 (λ k. z (v ∙ k)))
 
 -- the whole search
 pub stands_all : (m : Meaning) (l bound degree : ℕ) (chosen : List ℕ) (depth : ℕ) (q stripped : List (List ℕ)) (count i found : ℕ) (words now : List (List ℕ))

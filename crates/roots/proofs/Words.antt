@@ -1,6 +1,6 @@
 -- Words of coefficients: where they are put down, and what is read from them.
 use Rattle.std.proofs.Common.{◌≡◌, ℕ, zero, suc, ◌+◌, ◌<◌, ◌≤◌, ◌≢◌, List, [], ◌∷◌, ◌++◌, length, get_or, take, set, sym, ap, ◌∙◌, ap₂, arith, length-set}
-use Rattle.std.proofs.lemmas.List.{append_nil, append_assoc, get_or-set_same, get_or-set_other, take_more_set, length-replicate}
+use Rattle.std.proofs.lemmas.List.{append-nil, append_assoc, get_or-set_same, get_or-set_other, take_more_set, length-replicate}
 use Rattle.roots.specs.Search.{put_of, zero_word}
 use Rattle.roots.proofs.Numbers.{put_nil, put_cons}
 
@@ -40,7 +40,7 @@ pub placed_take : (chosen : List ℕ) (depth : ℕ) (xs : List ℕ)
     → depth + length xs ≤ length chosen
     → take (depth + length xs) (placed chosen depth xs) ≡ take depth chosen ++ xs
 placed_take chosen depth [] h =
-    let e : depth + 0 ≡ depth = omega arith in ap (λ n. take n chosen) e ∙ sym (append_nil (take depth chosen))
+    let e : depth + 0 ≡ depth = omega arith in ap (λ n. take n chosen) e ∙ sym (append-nil (take depth chosen))
 placed_take chosen depth (x ∷ xs) h =
     let e : depth + suc (length xs) ≡ suc depth + length xs = omega arith in
     let up : suc depth ≡ depth + 1 = omega arith in

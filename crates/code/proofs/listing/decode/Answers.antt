@@ -19,7 +19,7 @@ pub put-words-requires : goal.put-words-requires
 put-words-requires g c =
     let few : c.roots-tested.result ≤ 7 = tested_few c.args.plan.now (g.F.Field.meaning c.args.field.now) (lawful g.world g.row.F g.F.Field g.F.Field-dict g.met.F.Field c.args.field.now) c.args.heard.now c.args.list.now c.args.workspace.now c.requires c.interpolation-q.result c.interpolation-q.ensures.0 c.interpolation-q.ensures.1 c.l-2.result c.bound-2.result c.degree.result c.roots-tested.result c.roots-tested.new.words c.l-2.ensures c.bound-2.ensures c.degree.ensures c.roots-tested.ensures.found in
     let kept : c.near-words-words.result ≤ c.roots-tested.result = c.near-words-words.ensures.fewer in
-    let high : c.args.plan.now.n ≤ 64 = c.args.plan.now.nHigh in
+    let high : c.args.plan.now.n ≤ 64 = c.args.plan.now.n_high in
     record {
       few = omega arith;
       short = omega (arith, c.n.ensures);
