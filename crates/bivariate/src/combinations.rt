@@ -8,7 +8,7 @@ use field::Field;
 
 // The sum a + b·c.
 fn multiply_add<F: Field>(field: &F, a: u16, b: u16, c: u16) -> u16
-    ensures { result ≡ sum_of (F.Field.meaning field.now) a (product_of (F.Field.meaning field.now) b c) }
+    ensures { result ≡ sum_of (F.meaning field.now) a (product_of (F.meaning field.now) b c) }
 {
     field.sum(a, field.product(b, c))
 }
@@ -21,7 +21,7 @@ pub(crate) fn add_multiple<F: Field>(
     factor: u16,
     len: usize,
 )
-    ensures { target.new ≡ plus_of (F.Field.meaning field.now) factor len target.old source.now }
+    ensures { target.new ≡ plus_of (F.meaning field.now) factor len target.old source.now }
 {
     for i in 0..len.min(256) {
         target[i] = multiply_add(field, target[i], factor, source[i]);
@@ -36,7 +36,7 @@ pub fn subtract_multiple<F: Field>(
     factor: u16,
     len: usize,
 )
-    ensures { target.new ≡ minus_of (F.Field.meaning field.now) factor len target.old source.now }
+    ensures { target.new ≡ minus_of (F.meaning field.now) factor len target.old source.now }
 {
     add_multiple(field, target, source, field.negative(factor), len);
 }
@@ -51,7 +51,7 @@ pub fn subtract_polynomial<F: Field>(
     bound: usize,
     weight: usize,
 )
-    ensures { target.new ≡ minus_polynomial_of (F.Field.meaning field.now) factor l bound weight target.old source.now }
+    ensures { target.new ≡ minus_polynomial_of (F.meaning field.now) factor l bound weight target.old source.now }
 {
     for c in 0..l.min(8) {
         subtract_multiple(
@@ -66,7 +66,7 @@ pub fn subtract_polynomial<F: Field>(
 
 // Multiplies the row by x − a, as far as the first len coefficients of the product.
 pub fn multiply_x_minus<F: Field>(field: &F, row: &mut [u16; 256], a: u16, len: usize)
-    ensures { row.new ≡ times_of (F.Field.meaning field.now) a len row.old }
+    ensures { row.new ≡ times_of (F.meaning field.now) a len row.old }
 {
     let factor = field.negative(a);
     let mut carry = 0;
@@ -86,7 +86,7 @@ pub fn multiply_polynomial<F: Field>(
     bound: usize,
     weight: usize,
 )
-    ensures { q.new ≡ times_polynomial_of (F.Field.meaning field.now) a l bound weight q.old }
+    ensures { q.new ≡ times_polynomial_of (F.meaning field.now) a l bound weight q.old }
 {
     for c in 0..l.min(8) {
         multiply_x_minus(field, &mut q[c], a, row_length(bound, weight, c));

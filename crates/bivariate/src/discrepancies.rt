@@ -25,7 +25,7 @@ fn expansion_in_y<F: Field>(
     order: usize,
     r: usize,
 ) -> [u16; 8]
-    ensures { result ≡ expansion_of (F.Field.meaning field.now) b (term_of (F.Field.meaning field.now) q.now bound weight a r) 0 (min l 8) order }
+    ensures { result ≡ expansion_of (F.meaning field.now) b (term_of (F.meaning field.now) q.now bound weight a r) 0 (min l 8) order }
 {
     let mut h = [0; 8];
     for c in (0..l.min(8)).rev() {
@@ -48,7 +48,7 @@ pub fn discrepancy<F: Field>(
     u: usize,
     r: usize,
 ) -> u16
-    ensures { result ≡ discrepancy_of (F.Field.meaning field.now) q.now l bound weight a b u r }
+    ensures { result ≡ discrepancy_of (F.meaning field.now) q.now l bound weight a b u r }
 {
     if u < 8 {
         expansion_in_y(field, q, l, bound, weight, a, b, u + 1, r)[u]

@@ -54,7 +54,7 @@ pub fn lower(q: &mut [[u16; 256]; 8])
 // The coefficient of x^i of q(x, g).
 fn column_value<F: Field>(field: &F, q: &[[u16; 256]; 8], l: usize, g: u16, i: usize) -> u16
     requires { i < 256 }
-    ensures { result ≡ column_value_of (F.Field.meaning field.now) g l q.now i }
+    ensures { result ≡ column_value_of (F.meaning field.now) g l q.now i }
 {
     let mut result = 0;
     for c in (0..l.min(8)).rev() {
@@ -65,7 +65,7 @@ fn column_value<F: Field>(field: &F, q: &[[u16; 256]; 8], l: usize, g: u16, i: u
 
 // The value q(0, g).
 pub fn value_at_zero<F: Field>(field: &F, q: &[[u16; 256]; 8], l: usize, g: u16) -> u16
-    ensures { result ≡ column_value_of (F.Field.meaning field.now) g l q.now 0 }
+    ensures { result ≡ column_value_of (F.meaning field.now) g l q.now 0 }
 {
     column_value(field, q, l, g, 0)
 }
@@ -73,14 +73,14 @@ pub fn value_at_zero<F: Field>(field: &F, q: &[[u16; 256]; 8], l: usize, g: u16)
 // Whether the coefficient of x^i of q(x, g) is 0.
 fn column_vanishes<F: Field>(field: &F, q: &[[u16; 256]; 8], l: usize, g: u16, i: usize) -> bool
     requires { i < 256 }
-    ensures { result ≡ (column_value_of (F.Field.meaning field.now) g l q.now i == 0) }
+    ensures { result ≡ (column_value_of (F.meaning field.now) g l q.now i == 0) }
 {
     column_value(field, q, l, g, i) == 0
 }
 
 // Whether the first coefficients of q(x, g), as many as bound says, are all 0.
 pub fn vanishes_at<F: Field>(field: &F, q: &[[u16; 256]; 8], l: usize, g: u16, bound: usize) -> bool
-    ensures { result ≡ all_zero (column_value_of (F.Field.meaning field.now) g l q.now) (min bound 256) }
+    ensures { result ≡ all_zero (column_value_of (F.meaning field.now) g l q.now) (min bound 256) }
 {
     for i in 0..bound.min(256) {
         if !column_vanishes(field, q, l, g, i) {

@@ -16,7 +16,7 @@ fn shift_rows<F: Field>(
     weight: usize,
     g: u16,
 )
-    ensures { q.new ≡ shift_step_of (F.Field.meaning field.now) g l bound weight c q.old }
+    ensures { q.new ≡ shift_step_of (F.meaning field.now) g l bound weight c q.old }
 {
     for r in c..l.min(8).saturating_sub(1) {
         let next = q[r + 1];
@@ -33,7 +33,7 @@ fn shift_in_y<F: Field>(
     weight: usize,
     g: u16,
 )
-    ensures { q.new ≡ shift_of (F.Field.meaning field.now) g l bound weight (min l 8) q.old }
+    ensures { q.new ≡ shift_of (F.meaning field.now) g l bound weight (min l 8) q.old }
 {
     for c in (0..l.min(8)).rev() {
         shift_rows(field, q, c, l, bound, weight, g);
@@ -76,7 +76,7 @@ pub fn shifted<F: Field>(
     weight: usize,
     g: u16,
 ) -> [[u16; 256]; 8]
-    ensures { result ≡ shifted_of (F.Field.meaning field.now) g l bound weight q.now }
+    ensures { result ≡ shifted_of (F.meaning field.now) g l bound weight q.now }
 {
     let mut result = *q;
     shift_in_y(field, &mut result, l, bound, weight, g);

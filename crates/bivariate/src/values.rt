@@ -7,14 +7,14 @@ use field::Field;
 
 // One step of Horner's rule: h·a + c.
 pub(crate) fn horner<F: Field>(field: &F, h: u16, a: u16, c: u16) -> u16
-    ensures { result ≡ sum_of (F.Field.meaning field.now) (product_of (F.Field.meaning field.now) h a) c }
+    ensures { result ≡ sum_of (F.meaning field.now) (product_of (F.meaning field.now) h a) c }
 {
     field.sum(field.product(h, a), c)
 }
 
 // The value at a of the first len coefficients.
 pub fn value<F: Field>(field: &F, row: &[u16; 256], len: usize, a: u16) -> u16
-    ensures { result ≡ value_of (F.Field.meaning field.now) a (entries row.now) 0 (min len 256) }
+    ensures { result ≡ value_of (F.meaning field.now) a (entries row.now) 0 (min len 256) }
 {
     let mut result = 0;
     for i in (0..len.min(256)).rev() {
@@ -25,7 +25,7 @@ pub fn value<F: Field>(field: &F, row: &[u16; 256], len: usize, a: u16) -> u16
 
 // The first coefficients h of f(a + x) become those of g(a + x), where g(x) = c + x·f(x).
 pub(crate) fn push<F: Field>(field: &F, h: &mut [u16; 8], order: usize, a: u16, c: u16)
-    ensures { h.new ≡ pushed (F.Field.meaning field.now) order a c h.old }
+    ensures { h.new ≡ pushed (F.meaning field.now) order a c h.old }
 {
     let mut carry = c;
     for r in 0..order.min(8) {
@@ -43,7 +43,7 @@ pub fn expansion<F: Field>(
     a: u16,
     order: usize,
 ) -> [u16; 8]
-    ensures { result ≡ expansion_of (F.Field.meaning field.now) a (entries row.now) 0 (min len 256) order }
+    ensures { result ≡ expansion_of (F.meaning field.now) a (entries row.now) 0 (min len 256) order }
 {
     let mut h = [0; 8];
     for i in (0..len.min(256)).rev() {
@@ -60,7 +60,7 @@ pub(crate) fn coefficient<F: Field>(
     a: u16,
     r: usize,
 ) -> u16
-    ensures { result ≡ coefficient_of (F.Field.meaning field.now) a (entries row.now) (min len 256) r }
+    ensures { result ≡ coefficient_of (F.meaning field.now) a (entries row.now) (min len 256) r }
 {
     if r < 8 {
         expansion(field, row, len, a, r + 1)[r]

@@ -18,7 +18,7 @@ pub(crate) fn no_words() -> [[u16; 64]; 7]
 // The letter of the polynomial at place i.
 fn letter<F: Field>(plan: &Plan, field: &F, f: &[u16], i: usize) -> u16
     requires { i < plan.now.n }
-    ensures { result ≡ letter_of plan.now (meaning field.now) f.now i }
+    ensures { result ≡ letter_of plan.now (F.meaning field.now) f.now i }
 {
     let support = plan.support();
     let multipliers = plan.multipliers();
@@ -27,7 +27,7 @@ fn letter<F: Field>(plan: &Plan, field: &F, f: &[u16], i: usize) -> u16
 
 // The word of the polynomial, in the first n places.
 fn evaluated<F: Field>(plan: &Plan, field: &F, f: &[u16]) -> [u16; 64]
-    ensures { result ≡ evaluated_of plan.now (meaning field.now) f.now }
+    ensures { result ≡ evaluated_of plan.now (F.meaning field.now) f.now }
 {
     let mut word = [0; 64];
     for i in 0..plan.n() {
@@ -38,7 +38,7 @@ fn evaluated<F: Field>(plan: &Plan, field: &F, f: &[u16]) -> [u16; 64]
 
 // The word of a candidate, whose coefficients are the first n − t numbers of the array.
 fn candidate<F: Field>(plan: &Plan, field: &F, f: &[u16; 64]) -> [u16; 64]
-    ensures { result ≡ evaluated_of plan.now (meaning field.now) (take (plan.now.n - plan.now.t) f.now) }
+    ensures { result ≡ evaluated_of plan.now (F.meaning field.now) (take (plan.now.n - plan.now.t) f.now) }
 {
     let dimension = plan.dimension();
     evaluated(plan, field, &f[0..dimension])
@@ -79,7 +79,7 @@ fn is_accepted(letters: bool, close: bool) -> bool
 // Whether the array holds a word of letters within the plan's errors of the word heard.
 fn is_near<F: Field>(plan: &Plan, field: &F, heard: &[u16], array: &[u16; 64]) -> bool
     requires { length heard.now ≡ plan.now.n }
-    ensures { Decides result (Near plan.now (meaning field.now) heard.now array.now) }
+    ensures { Decides result (Near plan.now (F.meaning field.now) heard.now array.now) }
 {
     let n = plan.n();
     let word = &array[0..n];
@@ -108,7 +108,7 @@ pub(crate) fn near_words<F: Field>(
 ) -> usize
     requires long { length heard.now ≡ plan.now.n }
     requires few { tested ≤ 7 }
-    ensures kept { Kept plan.now (meaning field.now) heard.now candidates.now tested (take result words.new) }
+    ensures kept { Kept plan.now (F.meaning field.now) heard.now candidates.now tested (take result words.new) }
     ensures fewer { result ≤ tested }
     ensures rest { drop result words.new ≡ drop result words.old }
 {

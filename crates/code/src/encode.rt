@@ -16,7 +16,7 @@ use plan::Plan;
 
 // Over a field with fewer letters than elements, what a content is extended to need not be a word.
 fn is_word<F: Field>(plan: &Plan, field: &F, extended: &[u16; 64]) -> bool
-    ensures { Decides result (Letters (meaning field.now) (take plan.now.n extended.now)) }
+    ensures { Decides result (Letters (F.meaning field.now) (take plan.now.n extended.now)) }
 {
     let n = plan.n();
     are_letters(field, &extended[0..n])
@@ -43,8 +43,8 @@ fn word_of<F: Field>(
     content: &[u16],
     room: usize,
 ) -> Result<[u16; 64], CodeFault>
-    ensures judged { Judged refusal_of (WriteFails plan.now (meaning field.now) content.now room) (result_err result) }
-    ensures word { IfOk result (λ w. (plan.now.n ≤ room) × WordOf plan.now (meaning field.now) content.now (take plan.now.n w)) }
+    ensures judged { Judged refusal_of (WriteFails plan.now (F.meaning field.now) content.now room) (result_err result) }
+    ensures word { IfOk result (λ w. (plan.now.n ≤ room) × WordOf plan.now (F.meaning field.now) content.now (take plan.now.n w)) }
 {
     if let Err(fault) = read(plan, field, content, plan.dimension()) {
         return Err(fault);
@@ -72,8 +72,8 @@ pub fn write<F: Field>(
     content: &[u16],
     place: &mut [u16],
 ) -> Result<(), CodeFault>
-    ensures judged { Judged refusal_of (WriteFails plan.now (meaning field.now) content.now (length place.old)) (result_err result) }
-    ensures written { MatchResult result (λ _. Written plan.now (meaning field.now) content.now place.old place.new) (λ _. place.new ≡ place.old) }
+    ensures judged { Judged refusal_of (WriteFails plan.now (F.meaning field.now) content.now (length place.old)) (result_err result) }
+    ensures written { MatchResult result (λ _. Written plan.now (F.meaning field.now) content.now place.old place.new) (λ _. place.new ≡ place.old) }
 {
     match word_of(plan, field, content, place.len()) {
         Ok(word) => {

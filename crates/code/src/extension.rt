@@ -13,7 +13,7 @@ use poly::{divided_differences, newton_value, quotient};
 // The values of the polynomial at the places of the content.
 fn scale<F: Field>(plan: &Plan, field: &F, content: &[u16], values: &mut [u16])
     requires { (length values.old ≡ length content.now) × (length content.now ≤ plan.now.n) }
-    ensures { values.new ≡ scaled_of (meaning field.now) (multipliers_of plan.now) content.now }
+    ensures { values.new ≡ scaled_of (F.meaning field.now) (multipliers_of plan.now) content.now }
 {
     let multipliers = plan.multipliers();
     for i in 0..content.len() {
@@ -30,7 +30,7 @@ fn letter_at<F: Field>(
     i: usize,
 ) -> u16
     requires { i < plan.now.n }
-    ensures { result ≡ letter_at (meaning field.now) (support_of plan.now) (multipliers_of plan.now) content.now coefficients.now i }
+    ensures { result ≡ letter_at (F.meaning field.now) (support_of plan.now) (multipliers_of plan.now) content.now coefficients.now i }
 {
     if i < content.len() {
         return content[i];
@@ -51,7 +51,7 @@ fn fill_in<F: Field>(
     word: &mut [u16],
 )
     requires { length word.old ≡ plan.now.n }
-    ensures { word.new ≡ made plan.now.n (letter_at (meaning field.now) (support_of plan.now) (multipliers_of plan.now) content.now coefficients.now) }
+    ensures { word.new ≡ made plan.now.n (letter_at (F.meaning field.now) (support_of plan.now) (multipliers_of plan.now) content.now coefficients.now) }
 {
     for i in 0..word.len() {
         word[i] = letter_at(plan, field, content, coefficients, i);
@@ -60,8 +60,8 @@ fn fill_in<F: Field>(
 
 // The one list that begins with the content and has the form of the code, in the first n places.
 pub(crate) fn extend<F: Field>(plan: &Plan, field: &F, content: &[u16]) -> [u16; 64]
-    requires { (plan.now.size ≡ (meaning field.now).size) × ((length content.now ≡ plan.now.n - plan.now.t) × (Letters (meaning field.now) content.now)) }
-    ensures { Extends plan.now (meaning field.now) content.now (take plan.now.n result) }
+    requires { (plan.now.size ≡ (F.meaning field.now).size) × ((length content.now ≡ plan.now.n - plan.now.t) × (Letters (F.meaning field.now) content.now)) }
+    ensures { Extends plan.now (F.meaning field.now) content.now (take plan.now.n result) }
 {
     let mut values = [0u16; 64];
     let mut word = [0u16; 64];

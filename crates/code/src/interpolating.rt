@@ -14,7 +14,7 @@ use poly::quotient;
 fn place<F: Field>(plan: &Plan, field: &F, heard: &[u16], i: usize) -> Place
     requires inside { i < plan.now.n }
     requires long { length heard.now ≡ plan.now.n }
-    ensures { result ≡ place_at plan.now (meaning field.now) heard.now i }
+    ensures { result ≡ place_at plan.now (F.meaning field.now) heard.now i }
 {
     let support = plan.support();
     let multipliers = plan.multipliers();
@@ -39,7 +39,7 @@ fn no_place() -> Place
 // The places of the word heard, in the first n places of the array.
 fn places<F: Field>(plan: &Plan, field: &F, heard: &[u16]) -> [Place; 64]
     requires { length heard.now ≡ plan.now.n }
-    ensures { (take plan.now.n result ≡ places_of plan.now (meaning field.now) heard.now) × (length result ≡ 64) }
+    ensures { (take plan.now.n result ≡ places_of plan.now (F.meaning field.now) heard.now) × (length result ≡ 64) }
 {
     let mut places = [no_place(); 64];
     for i in 0..plan.n() {
@@ -51,7 +51,7 @@ fn places<F: Field>(plan: &Plan, field: &F, heard: &[u16]) -> [Place; 64]
 // The interpolation polynomial of the word heard. The plan's inequality sees to it that there is one.
 pub(crate) fn interpolation<F: Field>(plan: &Plan, field: &F, heard: &[u16]) -> [[u16; 256]; 8]
     requires { length heard.now ≡ plan.now.n }
-    ensures { (b : Bool) × Interpolant (meaning field.now) (places_of plan.now (meaning field.now) heard.now) plan.now.l (width_of plan.now) (weight_of plan.now) result b }
+    ensures { (b : Bool) × Interpolant (F.meaning field.now) (places_of plan.now (F.meaning field.now) heard.now) plan.now.l (width_of plan.now) (weight_of plan.now) result b }
 {
     let n = plan.n();
     let places = places(plan, field, heard);

@@ -13,7 +13,7 @@ use plan::Plan;
 
 // The support and the multipliers of a plan are elements only of fields of the plan's size.
 fn other_field<F: Field>(plan: &Plan, field: &F) -> bool
-    ensures { Decides result (plan.now.size ≢ (meaning field.now).size) }
+    ensures { Decides result (plan.now.size ≢ (F.meaning field.now).size) }
 {
     plan.size() != field.size()
 }
@@ -26,7 +26,7 @@ fn other_length(letters: &[u16], long: usize) -> bool
 
 // The first place at which no letter stands.
 fn first_no_letter<F: Field>(field: &F, letters: &[u16]) -> Option<usize>
-    ensures { FirstBad (NoLetter (meaning field.now) letters.now) (length letters.now) result }
+    ensures { FirstBad (NoLetter (F.meaning field.now) letters.now) (length letters.now) result }
 {
     for i in 0..letters.len() {
         if !is_letter(field, letters[i]) {
@@ -37,7 +37,7 @@ fn first_no_letter<F: Field>(field: &F, letters: &[u16]) -> Option<usize>
 }
 
 pub(crate) fn are_letters<F: Field>(field: &F, letters: &[u16]) -> bool
-    ensures { Decides result (Letters (meaning field.now) letters.now) }
+    ensures { Decides result (Letters (F.meaning field.now) letters.now) }
 {
     match first_no_letter(field, letters) {
         Some(_) => false,
@@ -52,7 +52,7 @@ pub(crate) fn read<F: Field>(
     letters: &[u16],
     long: usize,
 ) -> Result<(), CodeFault>
-    ensures { Judged refusal_of (ReadFails plan.now (meaning field.now) long letters.now) (result_err result) }
+    ensures { Judged refusal_of (ReadFails plan.now (F.meaning field.now) long letters.now) (result_err result) }
 {
     if other_field(plan, field) {
         return Err(CodeFault::Field);

@@ -49,7 +49,7 @@ pub fn ready<F: Field>(
     list: &[u16],
     workspace: &[u16],
 ) -> Result<(), CodeFault>
-    ensures { Judged refusal_of (ListFails plan.now (meaning field.now) heard.now (length list.now) (length workspace.now)) (result_err result) }
+    ensures { Judged refusal_of (ListFails plan.now (F.meaning field.now) heard.now (length list.now) (length workspace.now)) (result_err result) }
 {
     if let Err(fault) = read(plan, field, heard, plan.n()) {
         return Err(fault);
@@ -110,8 +110,8 @@ fn decode<F: Field>(
     list: &mut [u16],
     workspace: &mut [u16],
 ) -> Listing
-    requires { First refusal_of (ListFails plan.now (meaning field.now) heard.now (length list.old) (length workspace.old)) None }
-    ensures { Decoded plan.now (meaning field.now) heard.now list.old list.new workspace.old workspace.new result.words result.tested }
+    requires { First refusal_of (ListFails plan.now (F.meaning field.now) heard.now (length list.old) (length workspace.old)) None }
+    ensures { Decoded plan.now (F.meaning field.now) heard.now list.old list.new workspace.old workspace.new result.words result.tested }
 {
     let q = interpolation(plan, field, heard);
     flatten(&q, plan.l(), plan.bound(), workspace);
@@ -140,8 +140,8 @@ pub fn list<F: Field>(
     list: &mut [u16],
     workspace: &mut [u16],
 ) -> Result<Listing, CodeFault>
-    ensures judged { Judged refusal_of (ListFails plan.now (meaning field.now) heard.now (length list.old) (length workspace.old)) (result_err result) }
-    ensures listed { MatchResult result (λ a. Decoded plan.now (meaning field.now) heard.now list.old list.new workspace.old workspace.new a.words a.tested) (λ _. (list.new ≡ list.old) × (workspace.new ≡ workspace.old)) }
+    ensures judged { Judged refusal_of (ListFails plan.now (F.meaning field.now) heard.now (length list.old) (length workspace.old)) (result_err result) }
+    ensures listed { MatchResult result (λ a. Decoded plan.now (F.meaning field.now) heard.now list.old list.new workspace.old workspace.new a.words a.tested) (λ _. (list.new ≡ list.old) × (workspace.new ≡ workspace.old)) }
 {
     match ready(plan, field, heard, list, workspace) {
         Ok(()) => Ok(decode(plan, field, heard, list, workspace)),

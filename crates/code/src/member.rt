@@ -26,8 +26,8 @@ fn agrees(plan: &Plan, extended: &[u16; 64], word: &[u16]) -> bool
 }
 
 fn is_member<F: Field>(plan: &Plan, field: &F, word: &[u16]) -> bool
-    requires { First refusal_of (CheckFails plan.now (meaning field.now) word.now) None }
-    ensures { Decides result (InCode plan.now (meaning field.now) word.now) }
+    requires { First refusal_of (CheckFails plan.now (F.meaning field.now) word.now) None }
+    ensures { Decides result (InCode plan.now (F.meaning field.now) word.now) }
 {
     let k = plan.dimension();
     let extended = extend(plan, field, &word[0..k]);
@@ -36,15 +36,15 @@ fn is_member<F: Field>(plan: &Plan, field: &F, word: &[u16]) -> bool
 
 // Refuses what is not n letters of the plan's field.
 fn read_word<F: Field>(plan: &Plan, field: &F, word: &[u16]) -> Result<(), CodeFault>
-    ensures { Judged refusal_of (CheckFails plan.now (meaning field.now) word.now) (result_err result) }
+    ensures { Judged refusal_of (CheckFails plan.now (F.meaning field.now) word.now) (result_err result) }
 {
     read(plan, field, word, plan.n())
 }
 
 // Whether the word is in the code of the plan over the field.
 pub fn check<F: Field>(plan: &Plan, field: &F, word: &[u16]) -> Result<bool, CodeFault>
-    ensures judged { Judged refusal_of (CheckFails plan.now (meaning field.now) word.now) (result_err result) }
-    ensures decided { IfOk result (λ b. Decides b (InCode plan.now (meaning field.now) word.now)) }
+    ensures judged { Judged refusal_of (CheckFails plan.now (F.meaning field.now) word.now) (result_err result) }
+    ensures decided { IfOk result (λ b. Decides b (InCode plan.now (F.meaning field.now) word.now)) }
 {
     match read_word(plan, field, word) {
         Ok(()) => Ok(is_member(plan, field, word)),

@@ -4,7 +4,7 @@ use Rattle.algebra.specs.Operations.{Lawful}
 use Rattle.algebra.specs.Elements.{Elem}
 use Rattle.algebra.specs.Bivariate.{Bivariate}
 use Rattle.fault.specs.First.{Judged}
-use Rattle.field.specs.declared.fault.FieldFault.{FieldFault}
+use Rattle.field.specs.declared.refusal.FieldFault.{FieldFault}
 use Rattle.field.specs.Binary.{binary}
 use Rattle.field.specs.Faults.{refusal_of}
 use Rattle.field.specs.Meaning.{Meaning, operations}

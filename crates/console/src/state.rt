@@ -32,7 +32,7 @@ pub struct Console {
 
 // What a field has and how many letters.
 fn described<F: Field>(field: &F) -> Answer
-    ensures { result ≡ plain (meaning field.now) }
+    ensures { result ≡ plain (F.meaning field.now) }
 {
     Answer::Field {
         size: field.size(),
@@ -42,7 +42,7 @@ fn described<F: Field>(field: &F) -> Answer
 
 // Whether the word is in the code of the plan over the field, as an answer.
 fn checked<F: Field>(plan: &Plan, field: &F, word: &[u16]) -> Answer
-    ensures { Checked plan.now (meaning field.now) word.now result }
+    ensures { Checked plan.now (F.meaning field.now) word.now result }
 {
     match check(plan, field, word) {
         Ok(yes) => Answer::Check(yes),
@@ -52,7 +52,7 @@ fn checked<F: Field>(plan: &Plan, field: &F, word: &[u16]) -> Answer
 
 // The word of the code that begins with the content, as an answer.
 fn written<F: Field>(plan: &Plan, field: &F, content: &[u16]) -> Answer
-    ensures { WrittenOut plan.now (meaning field.now) content.now result }
+    ensures { WrittenOut plan.now (F.meaning field.now) content.now result }
 {
     let mut place = [0u16; 64];
     match write(plan, field, content, &mut place) {
@@ -63,7 +63,7 @@ fn written<F: Field>(plan: &Plan, field: &F, content: &[u16]) -> Answer
 
 // The words of the code near the word heard, as an answer.
 fn listed<F: Field>(plan: &Plan, field: &F, heard: &[u16]) -> Answer
-    ensures { ListedOut plan.now (meaning field.now) heard.now result }
+    ensures { ListedOut plan.now (F.meaning field.now) heard.now result }
 {
     let mut place = [0u16; 448];
     let mut workspace = [0u16; 32768];

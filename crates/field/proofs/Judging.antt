@@ -2,8 +2,8 @@
 use Rattle.std.proofs.Common.{◌≡◌, ℕ, ◌<◌, ◌≤◌, Some, None, Option, refl, inl, inr, arith}
 use Rattle.fault.specs.First.{First, Judged, Before}
 use Rattle.fault.proofs.Unique.{judged}
-use Rattle.field.specs.declared.fault.FieldFault.{FieldFault}
-use Rattle.field.specs.declared.fault.FieldFault.TheVariants.{Degree, Characteristic}
+use Rattle.field.specs.declared.refusal.FieldFault.{FieldFault}
+use Rattle.field.specs.declared.refusal.FieldFault.TheVariants.{Degree, Characteristic}
 use Rattle.field.specs.Faults.{refusal_of, PrimeFails, BinaryFails}
 use Rattle.field.specs.Modular.{Prime}
 

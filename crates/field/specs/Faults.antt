@@ -2,8 +2,8 @@
 use Rattle.std.specs.Prelude.{◌≡◌, ℕ, ◌<◌, ◌≤◌, ◌⊎◌}
 use Rattle.fault.specs.declared.Layer.TheVariants.{Field}
 use Rattle.fault.specs.declared.Refusal.{Refusal}
-use Rattle.field.specs.declared.fault.FieldFault.{FieldFault}
-use Rattle.field.specs.declared.fault.FieldFault.TheVariants.{Degree, Characteristic}
+use Rattle.field.specs.declared.refusal.FieldFault.{FieldFault}
+use Rattle.field.specs.declared.refusal.FieldFault.TheVariants.{Degree, Characteristic}
 use Rattle.field.specs.Modular.{Prime}
 
 -- number, layer and place of each case

@@ -6,15 +6,15 @@ ghost use Rattle.std.specs.Prelude.{◌≡◌, ℕ, ◌<◌, ◌≤◌, ◌≢�
 ghost use Rattle.field.specs.Meaning.{Meaning, Element, Letter, sum_of, negative_of, product_of, inverse_of};
 
 pub mod binary;
-pub mod fault;
 pub mod letter;
 mod power;
 pub mod prime;
+pub mod refusal;
 
 pub use binary::BinaryField;
-pub use fault::FieldFault;
 pub use letter::{is_letter, laws_hold};
 pub use prime::PrimeField;
+pub use refusal::FieldFault;
 
 // A field by its meaning. Every method answers for every 16-bit number, and none changes the field.
 pub trait Field {

@@ -12,7 +12,7 @@ pub(crate) trait Product {
 
 // The power e of a, for an exponent of at most 8 bits.
 pub(crate) fn raise<P: Product>(product: &P, a: u16, exponent: u16) -> u16
-    ensures { result ≡ power (times product.now) 8 1 a exponent }
+    ensures { result ≡ power (P.times product.now) 8 1 a exponent }
 {
     let mut result = 1;
     let mut base = a;

@@ -21,7 +21,7 @@ fn live_discrepancy<F: Field>(
     u: usize,
     r: usize,
 ) -> u16
-    ensures { result ≡ live_discrepancy_of (F.Field.meaning field.now) q.now degree l bound weight a b u r }
+    ensures { result ≡ live_discrepancy_of (F.meaning field.now) q.now degree l bound weight a b u r }
 {
     if degree < bound {
         discrepancy(field, q, l, bound, weight, a, b, u, r)
@@ -43,7 +43,7 @@ pub fn discrepancies<F: Field>(
     u: usize,
     r: usize,
 ) -> [u16; 8]
-    ensures { result ≡ discrepancies_of (F.Field.meaning field.now) rows.now degrees.now l bound weight a b u r }
+    ensures { result ≡ discrepancies_of (F.meaning field.now) rows.now degrees.now l bound weight a b u r }
 {
     let mut result = [0; 8];
     for j in 0..l.min(8) {
@@ -54,7 +54,7 @@ pub fn discrepancies<F: Field>(
 
 // The inverse of an element, and 0 where there is none.
 fn inverse_or_zero<F: Field>(field: &F, a: u16) -> u16
-    ensures { result ≡ inverse_or_zero (F.Field.meaning field.now) a }
+    ensures { result ≡ inverse_or_zero (F.meaning field.now) a }
 {
     field.inverse(a).unwrap_or(0)
 }
@@ -70,7 +70,7 @@ fn clear_row<F: Field>(
     bound: usize,
     weight: usize,
 )
-    ensures { q.new ≡ cleared_row_of (F.Field.meaning field.now) source.now factor l bound weight discrepancy q.old }
+    ensures { q.new ≡ cleared_row_of (F.meaning field.now) source.now factor l bound weight discrepancy q.old }
 {
     if discrepancy != 0 {
         subtract_polynomial(
@@ -96,7 +96,7 @@ pub fn eliminate<F: Field>(
     bound: usize,
     weight: usize,
 )
-    ensures { rows.new ≡ cleared_of (F.Field.meaning field.now) source.now factor l bound weight discrepancies.now rows.old }
+    ensures { rows.new ≡ cleared_of (F.meaning field.now) source.now factor l bound weight discrepancies.now rows.old }
 {
     for j in 0..8 {
         clear_row(
@@ -124,7 +124,7 @@ fn raise<F: Field>(
     weight: usize,
 )
     requires { p < 8 }
-    ensures { rows.new ≡ raised_of (F.Field.meaning field.now) p degree a l bound weight rows.old }
+    ensures { rows.new ≡ raised_of (F.meaning field.now) p degree a l bound weight rows.old }
 {
     if degree < bound {
         multiply_polynomial(field, &mut rows[p], a, l, bound, weight);
@@ -145,7 +145,7 @@ fn reduce<F: Field>(
 )
     requires inside { p < 8 }
     requires live { slice_index degrees.old p < bound }
-    ensures rows { rows.new ≡ reduced_of (F.Field.meaning field.now) p discrepancies.now degrees.old a l bound weight rows.old }
+    ensures rows { rows.new ≡ reduced_of (F.meaning field.now) p discrepancies.now degrees.old a l bound weight rows.old }
     ensures degrees { degrees.new ≡ slice_set degrees.old p (slice_index degrees.old p + 1) }
 {
     let source = rows[p];
@@ -171,7 +171,7 @@ pub fn step<F: Field>(
     bound: usize,
     weight: usize,
 )
-    ensures { Stepped (F.Field.meaning field.now) a b u r l bound weight rows.old degrees.old rows.new degrees.new }
+    ensures { Stepped (F.meaning field.now) a b u r l bound weight rows.old degrees.old rows.new degrees.new }
 {
     let failing = discrepancies(field, rows, degrees, l, bound, weight, a, b, u, r);
     if let Some(p) = pivot(degrees, &failing, l, bound) {

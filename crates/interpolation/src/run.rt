@@ -21,7 +21,7 @@ fn meet_column<F: Field>(
     bound: usize,
     weight: usize,
 )
-    ensures { ColumnMet (F.Field.meaning field.now) a b u count l bound weight rows.old degrees.old rows.new degrees.new }
+    ensures { ColumnMet (F.meaning field.now) a b u count l bound weight rows.old degrees.old rows.new degrees.new }
 {
     for r in 0..count {
         step(field, rows, degrees, a, b, u, r, l, bound, weight);
@@ -46,7 +46,7 @@ fn meet_place<F: Field>(
     bound: usize,
     weight: usize,
 )
-    ensures { PlaceMet (F.Field.meaning field.now) place l bound weight rows.old degrees.old rows.new degrees.new }
+    ensures { PlaceMet (F.meaning field.now) place l bound weight rows.old degrees.old rows.new degrees.new }
 {
     let multiplicity = place.multiplicity;
     for u in 0..multiplicity {
@@ -76,7 +76,7 @@ pub fn interpolate<F: Field>(
     rows: &mut [[[u16; 256]; 8]; 8],
     degrees: &mut [usize; 8],
 )
-    ensures { Interpolated (F.Field.meaning field.now) places.now l bound weight rows.new degrees.new }
+    ensures { Interpolated (F.meaning field.now) places.now l bound weight rows.new degrees.new }
 {
     *rows = start_rows();
     *degrees = start_degrees(weight);
@@ -104,8 +104,8 @@ pub fn interpolant<F: Field>(
     weight: usize,
     q: &mut [[u16; 256]; 8],
 ) -> bool
-    ensures found { Interpolant (F.Field.meaning field.now) places.now l bound weight q.new result }
-    ensures none { NoneBelow (F.Field.meaning field.now) places.now l bound weight result }
+    ensures found { Interpolant (F.meaning field.now) places.now l bound weight q.new result }
+    ensures none { NoneBelow (F.meaning field.now) places.now l bound weight result }
     ensures kept { result ≡ false → q.new ≡ q.old }
 {
     let mut rows = start_rows();

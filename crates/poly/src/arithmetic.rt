@@ -6,14 +6,14 @@ use field::Field;
 
 // a − b.
 pub fn difference<F: Field>(field: &F, a: u16, b: u16) -> u16
-    ensures { result ≡ difference_of (meaning field.now) a b }
+    ensures { result ≡ difference_of (F.meaning field.now) a b }
 {
     field.sum(a, field.negative(b))
 }
 
 // a / b, and 0 where b has no inverse.
 pub fn quotient<F: Field>(field: &F, a: u16, b: u16) -> u16
-    ensures { result ≡ quotient_of (meaning field.now) a b }
+    ensures { result ≡ quotient_of (F.meaning field.now) a b }
 {
     match field.inverse(b) {
         Some(inverse) => field.product(a, inverse),
@@ -23,7 +23,7 @@ pub fn quotient<F: Field>(field: &F, a: u16, b: u16) -> u16
 
 // c + a·v, the step of every nested form.
 pub(crate) fn affine<F: Field>(field: &F, c: u16, a: u16, v: u16) -> u16
-    ensures { result ≡ affine_of (meaning field.now) c a v }
+    ensures { result ≡ affine_of (F.meaning field.now) c a v }
 {
     field.sum(c, field.product(a, v))
 }

@@ -10,7 +10,7 @@ use field::Field;
 
 // The slope from the point (x0, y0) to the point (x, y).
 fn slope<F: Field>(field: &F, x0: u16, y0: u16, x: u16, y: u16) -> u16
-    ensures { result ≡ slope_of (meaning field.now) x0 y0 x y }
+    ensures { result ≡ slope_of (F.meaning field.now) x0 y0 x y }
 {
     let rise = difference(field, y, y0);
     let run = difference(field, x, x0);
@@ -20,7 +20,7 @@ fn slope<F: Field>(field: &F, x0: u16, y0: u16, x: u16, y: u16) -> u16
 // Against point j: each later value less value j, divided by the difference of the points.
 fn sweep<F: Field>(field: &F, points: &[u16], values: &mut [u16], j: usize)
     requires { j < length values.old }
-    ensures { values.new ≡ sweep_of (meaning field.now) points.now j values.old }
+    ensures { values.new ≡ sweep_of (F.meaning field.now) points.now j values.old }
 {
     let first = values[j];
     let origin = member(points, j);
@@ -31,7 +31,7 @@ fn sweep<F: Field>(field: &F, points: &[u16], values: &mut [u16], j: usize)
 
 // Puts the coefficients of Newton's form in place of the values at the points.
 pub fn divided_differences<F: Field>(field: &F, points: &[u16], values: &mut [u16])
-    ensures { values.new ≡ coefficients_of (meaning field.now) points.now values.old }
+    ensures { values.new ≡ coefficients_of (F.meaning field.now) points.now values.old }
 {
     for j in 0..values.len() {
         sweep(field, points, values, j);
@@ -40,7 +40,7 @@ pub fn divided_differences<F: Field>(field: &F, points: &[u16], values: &mut [u1
 
 // The value at z of c + (x − x0)·g, where v is that of g.
 fn nest<F: Field>(field: &F, x0: u16, c: u16, z: u16, v: u16) -> u16
-    ensures { result ≡ nest_of (meaning field.now) x0 c z v }
+    ensures { result ≡ nest_of (F.meaning field.now) x0 c z v }
 {
     let factor = difference(field, z, x0);
     affine(field, c, factor, v)
@@ -48,7 +48,7 @@ fn nest<F: Field>(field: &F, x0: u16, c: u16, z: u16, v: u16) -> u16
 
 // The value at z of Newton's form with these coefficients at these points, from the last one in.
 pub fn newton_value<F: Field>(field: &F, points: &[u16], coefficients: &[u16], z: u16) -> u16
-    ensures { result ≡ nested_of (meaning field.now) points.now coefficients.now z }
+    ensures { result ≡ nested_of (F.meaning field.now) points.now coefficients.now z }
 {
     let mut v = 0;
     for i in (0..coefficients.len()).rev() {
@@ -60,5 +60,5 @@ pub fn newton_value<F: Field>(field: &F, points: &[u16], coefficients: &[u16], z
 // Exactly one polynomial of degree below m has given values at m distinct points, and Newton's form
 // gives its value everywhere. It computes nothing: its promise is the theorem.
 pub fn one_polynomial<F: Field>(field: &F)
-    ensures { OneThrough (meaning field.now) }
+    ensures { OneThrough (F.meaning field.now) }
 {}

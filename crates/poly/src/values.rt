@@ -7,7 +7,7 @@ use field::Field;
 
 // By Horner's rule, from the highest coefficient down.
 pub fn value<F: Field>(field: &F, coefficients: &[u16], a: u16) -> u16
-    ensures { result ≡ value_of (meaning field.now) coefficients.now a }
+    ensures { result ≡ value_of (F.meaning field.now) coefficients.now a }
 {
     let mut v = 0;
     for i in (0..coefficients.len()).rev() {

@@ -57,8 +57,8 @@ fn descend<F: Field>(
     count: usize,
 ) -> usize
     requires { depth + degree < 2 ^ 64 }
-    ensures answer { result ≡ count_of count (roots_of (F.Field.meaning field.now) l bound degree chosen.now depth q.old) }
-    ensures written { words.new ≡ put_of count (roots_of (F.Field.meaning field.now) l bound degree chosen.now depth q.old) words.old }
+    ensures answer { result ≡ count_of count (roots_of (F.meaning field.now) l bound degree chosen.now depth q.old) }
+    ensures written { words.new ≡ put_of count (roots_of (F.meaning field.now) l bound degree chosen.now depth q.old) words.old }
     ensures divided { q.new ≡ stripped_of l bound q.old }
 {
     strip(q, l, bound);
@@ -95,7 +95,7 @@ fn start<F: Field>(
     degree: usize,
     words: &mut [[u16; 64]; 7],
 ) -> usize
-    ensures { Computes (F.Field.meaning field.now) q.now l bound degree words.old words.new result }
+    ensures { Computes (F.meaning field.now) q.now l bound degree words.old words.new result }
 {
     let mut divided = *q;
     descend(field, &mut divided, l, bound, degree, &[0; 64], 0, words, 0)
@@ -110,8 +110,8 @@ pub fn roots<F: Field>(
     degree: usize,
     words: &mut [[u16; 64]; 7],
 ) -> usize
-    ensures computed { Computes (F.Field.meaning field.now) q.now l bound degree words.old words.new result }
-    ensures found { Finds (F.Field.meaning field.now) q.now l bound degree words.new result }
+    ensures computed { Computes (F.meaning field.now) q.now l bound degree words.old words.new result }
+    ensures found { Finds (F.meaning field.now) q.now l bound degree words.new result }
 {
     start(field, q, l, bound, degree, words)
 }

@@ -4,7 +4,7 @@ ghost use Rattle.std.specs.Result.{result_err};
 ghost use Rattle.fault.specs.First.{Judged};
 ghost use Rattle.field.specs.Binary.{binary, doubled, modulus_of, Irreducible, times as timesModulo};
 ghost use Rattle.field.specs.Faults.{refusal_of, BinaryFails};
-ghost use Rattle.field.specs.declared.fault.FieldFault.TheVariants.{Degree};
+ghost use Rattle.field.specs.declared.refusal.FieldFault.TheVariants.{Degree};
 ghost use Rattle.field.specs.Meaning.{product_of};
 ghost use Rattle.std.proofs.Common.{arith, rules};
 ghost use Rattle.field.specs.BinaryLaws as laws;

@@ -3,7 +3,7 @@ ghost use Rattle.std.specs.Prelude.{◌≡◌, ℕ, ◌*◌, ◌%◌, ◌<◌, �
 ghost use Rattle.std.specs.Result.{result_err};
 ghost use Rattle.fault.specs.First.{Judged};
 ghost use Rattle.field.specs.Faults.{refusal_of, PrimeFails};
-ghost use Rattle.field.specs.declared.fault.FieldFault.TheVariants.{Characteristic};
+ghost use Rattle.field.specs.declared.refusal.FieldFault.TheVariants.{Characteristic};
 ghost use Rattle.field.specs.Modular.{Prime, modular, times as timesModulo};
 ghost use Rattle.std.proofs.Common.{mod-lt, arith, rules};
 ghost use Rattle.field.specs.Modular;

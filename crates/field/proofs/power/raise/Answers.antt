@@ -10,7 +10,7 @@ loop-bit-preserved g c =
       | then-rest-eq1 w ↦ odd_takes _ _ _ w.if-rest-eq1.true ∙ sym w.times-result.ensures ∙ sym w.result-is
       | else-rest-eq1 w ↦ even_keeps _ _ _ w.if-rest-eq1.false ∙ sym w.result-is
     ] in
-    power_again times c.loop-bit.-bit _ _ _ _ _ _ c.loop-bit-test.true chosen c.times-base.ensures c.loop-bit.invariant
+    power_again times c.loop-bit._bit _ _ _ _ _ _ c.loop-bit-test.true chosen c.times-base.ensures c.loop-bit.invariant
 
 pub returns : goal.returns
 returns g c = sym (power_done _ _ _ _ _ c.loop-bit-test.false) ∙ c.loop-bit.invariant
