@@ -3,4 +3,4 @@ use Rattle.plan.proofs.Padding.{pads}
 use Rattle.plan.proofs.make.pad.Goals as goal
 
 pub returns : goal.returns
-returns c = pads c.args.letters.now c.copy-from-slice.new.self c.copy-from-slice.ensures.after
+returns c = pads c.args.letters.now c.copy_from_slice.new.self c.copy_from_slice.ensures.after
