@@ -11,7 +11,7 @@ loop-i-preserved g c =
     let m = g.F.Field.meaning c.args.field.now in
     let in_len : c.loop-i.i < c.args.len = omega (arith, c.loop-i-test.true, c.min-i-end.ensures) in
     let in_list : c.loop-i.i < length c.args.target.now = omega (arith, c.loop-i-test.true, c.min-i-end.ensures, c.told-target) in
-    plus_more m c.args.factor c.args.len c.args.target.now c.args.source.now c.loop-i.i c.loop-i.target c.multiply-add.result in_len in_list c.loop-i.invariant c.multiply-add.ensures
+    plus_more m c.args.factor c.args.len c.args.target.now c.args.source.now c.loop-i.i c.loop-i.target c.multiply_add.result in_len in_list c.loop-i.invariant c.multiply_add.ensures
 
 pub returns : goal.returns
 returns g c =

@@ -19,11 +19,11 @@ loop-c-preserved g c =
     c.args.q.now
     c.loop-c.c
     c.loop-c.q
-    c.multiply-x-minus.new.row
+    c.multiply_x_minus.new.row
     in-l
     in_list
     c.loop-c.invariant
-    (made_with (λ n. times_of m c.args.a n (get_or c.loop-c.q c.loop-c.c [])) _ _ _ c.multiply-x-minus.ensures c.row-length.ensures)
+    (made_with (λ n. times_of m c.args.a n (get_or c.loop-c.q c.loop-c.c [])) _ _ _ c.multiply_x_minus.ensures c.row_length.ensures)
 
 pub returns : goal.returns
 unfolding times_polynomial_of

@@ -12,7 +12,7 @@ loop-i-preserved g c =
     let m = g.F.Field.meaning c.args.field.now in
     let in_len : c.loop-i.i < c.args.len = omega (arith, c.loop-i-test.true, c.min-i-end.ensures) in
     let in_list : c.loop-i.i < length c.args.row.now = omega (arith, c.loop-i-test.true, c.min-i-end.ensures, c.told-row) in
-    times_more m c.args.a c.args.len c.args.row.now c.loop-i.i c.loop-i.row c.negative-factor.result c.loop-i.carry c.multiply-add.result in_len in_list c.loop-i.invariant c.negative-factor.ensures c.multiply-add.ensures
+    times_more m c.args.a c.args.len c.args.row.now c.loop-i.i c.loop-i.row c.negative-factor.result c.loop-i.carry c.multiply_add.result in_len in_list c.loop-i.invariant c.negative-factor.ensures c.multiply_add.ensures
 
 pub returns : goal.returns
 returns g c =

@@ -19,11 +19,11 @@ loop-c-preserved g c =
     c.args.target.now
     c.loop-c.c
     c.loop-c.target
-    c.subtract-multiple.new.target
+    c.subtract_multiple.new.target
     in-l
     in_list
     c.loop-c.invariant
-    (made_with (λ n. minus_of m c.args.factor n (get_or c.loop-c.target c.loop-c.c []) (get_or c.args.source.now c.loop-c.c [])) _ _ _ c.subtract-multiple.ensures c.row-length.ensures)
+    (made_with (λ n. minus_of m c.args.factor n (get_or c.loop-c.target c.loop-c.c []) (get_or c.args.source.now c.loop-c.c [])) _ _ _ c.subtract_multiple.ensures c.row_length.ensures)
 
 pub returns : goal.returns
 unfolding minus_polynomial_of

@@ -8,7 +8,7 @@ unfolding discrepancy_of
 returns-then-u-lt8 g c =
     let m = g.F.Field.meaning c.args.field.now in
     let cs : ℕ → ℕ = term_of m c.args.q.now c.args.bound c.args.weight c.args.a c.args.r in
-    coefficient_read m c.args.b cs (min c.args.l 8) c.args.u c.expansion-in-y.result c.if-u-lt8.true c.expansion-in-y.ensures
+    coefficient_read m c.args.b cs (min c.args.l 8) c.args.u c.expansion_in_y.result c.if-u-lt8.true c.expansion_in_y.ensures
 
 pub returns-else-u-lt8 : goal.returns-else-u-lt8
 unfolding discrepancy_of

@@ -35,7 +35,7 @@ loop-c-preserved g c =
     _
     _
     c.coefficient-term.ensures
-    (row_length_clipped _ _ _ _ c.row-length.ensures))
+    (row_length_clipped _ _ _ _ c.row_length.ensures))
     c.push.ensures
 
 pub returns : goal.returns

@@ -7,14 +7,14 @@ loop-c-init c = rows_none c.args.q.now c.args.count c.args.width c.args.workspac
 
 pub loop-c-preserved : goal.loop-c-preserved
 loop-c-preserved c =
-    rows_more c.args.q.now c.args.count c.args.width c.args.workspace.now c.loop-c.c c.loop-c.workspace c.copy-row.new.workspace c.loop-c-test.true c.loop-c.invariant c.copy-row.ensures
+    rows_more c.args.q.now c.args.count c.args.width c.args.workspace.now c.loop-c.c c.loop-c.workspace c.copy_row.new.workspace c.loop-c-test.true c.loop-c.invariant c.copy_row.ensures
 
 pub returns : goal.returns
 returns c =
     rows_all c.args.q.now c.args.count c.args.width c.args.workspace.now c.loop-c.c c.loop-c.workspace c.loop-c-test.false c.loop-c.auto.c-end c.loop-c.invariant
 
-pub copy-row-requires : goal.copy-row-requires
-copy-row-requires c =
+pub copy_row-requires : goal.copy_row-requires
+copy_row-requires c =
     record {
       fits =
           let long : length c.loop-c.workspace ≡ length c.args.workspace.now = c.loop-c.invariant.long in

@@ -3,9 +3,9 @@ use Rattle.std.proofs.lemmas.Bool.{leb-true, leb-false}
 use Rattle.bivariate.proofs.Flattening.{flat_short, flat_done}
 use Rattle.bivariate.proofs.flat.flatten.Goals as goal
 
-pub returns-then-not-has-room : goal.returns-then-not-has-room
-returns-then-not-has-room c =
-    let none : leb 32768 (length c.args.workspace.now) ≡ false = sym c.has-room.ensures ∙ c.if-not-has-room.true in
+pub returns-then-not-has_room : goal.returns-then-not-has_room
+returns-then-not-has_room c =
+    let none : leb 32768 (length c.args.workspace.now) ≡ false = sym c.has_room.ensures ∙ c.if-not-has_room.true in
     record {
       answer = sym none;
       written = flat_short c.args.q.now c.args.l c.args.bound c.args.workspace.now (leb-false _ _ none);
@@ -13,7 +13,7 @@ returns-then-not-has-room c =
 
 pub returns : goal.returns
 returns c =
-    let room : leb 32768 (length c.args.workspace.now) ≡ true = sym c.has-room.ensures ∙ c.if-not-has-room.false in
+    let room : leb 32768 (length c.args.workspace.now) ≡ true = sym c.has_room.ensures ∙ c.if-not-has_room.false in
     record {
       answer = sym room;
       written =
@@ -29,6 +29,6 @@ returns c =
           (leb-true _ _ room)
           c.min.ensures
           c.min-2.ensures
-          c.clear-written.ensures
-          c.copy-rows.ensures;
+          c.clear_written.ensures
+          c.copy_rows.ensures;
     }

@@ -10,7 +10,7 @@ loop-c-init c = upto_none _ _ _
 pub loop-c-preserved : goal.loop-c-preserved
 loop-c-preserved c =
     let inside : c.loop-c.c < length c.args.q.now = omega (arith, c.loop-c-test.true, c.told-q) in
-    changed_more 8 (λ _ row. lower_row row) c.args.q.now c.loop-c.c c.loop-c.q c.lower-row.new.row c.loop-c-test.true inside c.loop-c.invariant c.lower-row.ensures
+    changed_more 8 (λ _ row. lower_row row) c.args.q.now c.loop-c.c c.loop-c.q c.lower_row.new.row c.loop-c-test.true inside c.loop-c.invariant c.lower_row.ensures
 
 pub returns : goal.returns
 unfolding lower_of

@@ -9,7 +9,7 @@ loop-c-init g c =
 
 pub loop-c-preserved : goal.loop-c-preserved
 loop-c-preserved g c =
-    shift_again (g.F.Field.meaning c.args.field.now) c.args.g c.args.l c.args.bound c.args.weight c.loop-c.c c.loop-c.q c.shift-rows.new.q _ c.loop-c-test.true c.loop-c.invariant c.shift-rows.ensures
+    shift_again (g.F.Field.meaning c.args.field.now) c.args.g c.args.l c.args.bound c.args.weight c.loop-c.c c.loop-c.q c.shift_rows.new.q _ c.loop-c-test.true c.loop-c.invariant c.shift_rows.ensures
 
 pub returns : goal.returns
 returns g c =

@@ -4,4 +4,4 @@ use Rattle.bivariate.proofs.shifts.shifted.Goals as goal
 
 pub returns : goal.returns
 unfolding shifted_of
-returns g c = made_with raise_of _ _ _ c.raise-rows.ensures c.shift-in-y.ensures
+returns g c = made_with raise_of _ _ _ c.raise_rows.ensures c.shift_in_y.ensures

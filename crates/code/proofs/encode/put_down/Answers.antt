@@ -2,4 +2,4 @@ use Rattle.code.proofs.Writing.{put}
 use Rattle.code.proofs.encode.put_down.Goals as goal
 
 pub returns : goal.returns
-returns c = put c.args.plan.now c.n-n.result c.args.word.now c.args.place.now c.copy-from-slice.new.self c.n-n.ensures c.copy-from-slice.ensures.after
+returns c = put c.args.plan.now c.n-n.result c.args.word.now c.args.place.now c.copy_from_slice.new.self c.n-n.ensures c.copy_from_slice.ensures.after

@@ -9,16 +9,16 @@ returns-in-Err g c = record {
 }
 
 pub extend-extended-requires : goal.extend-extended-requires
-extend-extended-requires g c = content_read c.args.plan.now (g.F.Field.meaning c.args.field.now) c.args.content.now c.args.room c.dimension.result c.dimension.ensures c.in-default.ensures
+extend-extended-requires g c = content_read c.args.plan.now (g.F.Field.meaning c.args.field.now) c.args.content.now c.args.room c.dimension.result c.dimension.ensures c.in_default.ensures
 
 pub returns-in-Some : goal.returns-in-Some
 returns-in-Some g c = record {
-  judged = last_judged c.args.plan.now (g.F.Field.meaning c.args.field.now) c.args.content.now c.args.room c.dimension.result c.dimension.ensures c.in-default.ensures _ c.extend-extended.ensures c.is-word.result c.is-word.ensures c.n.result c.n.ensures (Some c.in-Some.fault) c.in-Some.ensures;
+  judged = last_judged c.args.plan.now (g.F.Field.meaning c.args.field.now) c.args.content.now c.args.room c.dimension.result c.dimension.ensures c.in_default.ensures _ c.extend-extended.ensures c.is_word.result c.is_word.ensures c.n.result c.n.ensures (Some c.in-Some.fault) c.in-Some.ensures;
   word = tt;
 }
 
 pub returns-in-None : goal.returns-in-None
 returns-in-None g c = record {
-  judged = last_judged c.args.plan.now (g.F.Field.meaning c.args.field.now) c.args.content.now c.args.room c.dimension.result c.dimension.ensures c.in-default.ensures _ c.extend-extended.ensures c.is-word.result c.is-word.ensures c.n.result c.n.ensures None c.in-None.ensures;
-  word = last_word c.args.plan.now (g.F.Field.meaning c.args.field.now) c.args.content.now c.args.room c.dimension.result c.dimension.ensures c.in-default.ensures _ c.extend-extended.ensures c.is-word.result c.is-word.ensures c.n.result c.n.ensures c.in-None.ensures;
+  judged = last_judged c.args.plan.now (g.F.Field.meaning c.args.field.now) c.args.content.now c.args.room c.dimension.result c.dimension.ensures c.in_default.ensures _ c.extend-extended.ensures c.is_word.result c.is_word.ensures c.n.result c.n.ensures None c.in-None.ensures;
+  word = last_word c.args.plan.now (g.F.Field.meaning c.args.field.now) c.args.content.now c.args.room c.dimension.result c.dimension.ensures c.in_default.ensures _ c.extend-extended.ensures c.is_word.result c.is_word.ensures c.n.result c.n.ensures c.in-None.ensures;
 }

@@ -4,5 +4,5 @@ use Rattle.code.proofs.encode.write.Goals as goal
 pub returns-in-Ok : goal.returns-in-Ok
 returns-in-Ok g c = record {
   judged = c.in-Ok.ensures.judged;
-  written = c.put-down.ensures (g.F.Field.meaning c.args.field.now) c.args.content.now c.in-Ok.ensures.word.1;
+  written = c.put_down.ensures (g.F.Field.meaning c.args.field.now) c.args.content.now c.in-Ok.ensures.word.1;
 }

@@ -7,5 +7,5 @@ pub returns : goal.returns
 returns g c =
     extended c.args.plan.now (g.F.Field.meaning c.args.field.now) (lawful g.world g.row.F g.F.Field g.F.Field-dict g.met.F.Field c.args.field.now)
     c.requires.0 c.args.content.now c.requires.1.0 c.requires.1.1
-    c.support.result.now c.scale.new.values c.divided-differences.new.values c.fill-in.new.word _
-    c.support.ensures c.scale.ensures c.divided-differences.ensures c.fill-in.ensures
+    c.support.result.now c.scale.new.values c.divided_differences.new.values c.fill_in.new.word _
+    c.support.ensures c.scale.ensures c.divided_differences.ensures c.fill_in.ensures

@@ -6,7 +6,7 @@ use Rattle.code.specs.Extension.{letter_at}
 use Rattle.code.proofs.extension.fill_in.Goals as goal
 
 pub loop-i-preserved : goal.loop-i-preserved
-loop-i-preserved g c = upto_more _ c.args.word.now c.loop-i.i c.loop-i.word c.letter-at.result c.loop-i.invariant c.loop-i-test.true c.letter-at.ensures
+loop-i-preserved g c = upto_more _ c.args.word.now c.loop-i.i c.loop-i.word c.letter_at.result c.loop-i.invariant c.loop-i-test.true c.letter_at.ensures
 
 pub returns : goal.returns
 returns g c =

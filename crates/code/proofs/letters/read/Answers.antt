@@ -5,14 +5,14 @@ use Rattle.code.proofs.Order.{first_field, first_length}
 use Rattle.code.proofs.Reading.{at_letter, at_none}
 use Rattle.code.proofs.letters.read.Goals as goal
 
-pub returns-then-other-field : goal.returns-then-other-field
-returns-then-other-field g c = first_field (ReadFails c.args.plan.now (g.F.Field.meaning c.args.field.now) c.args.long c.args.letters.now) (c.other-field.ensures.0 c.if-other-field.true)
+pub returns-then-other_field : goal.returns-then-other_field
+returns-then-other_field g c = first_field (ReadFails c.args.plan.now (g.F.Field.meaning c.args.field.now) c.args.long c.args.letters.now) (c.other_field.ensures.0 c.if-other_field.true)
 
-pub returns-then-other-length : goal.returns-then-other-length
-returns-then-other-length g c = first_length (ReadFails c.args.plan.now (g.F.Field.meaning c.args.field.now) c.args.long c.args.letters.now) (not_from_Decides _ c.other-field.ensures c.if-other-field.false) (λ z. z) (c.other-length.ensures.0 c.if-other-length.true)
+pub returns-then-other_length : goal.returns-then-other_length
+returns-then-other_length g c = first_length (ReadFails c.args.plan.now (g.F.Field.meaning c.args.field.now) c.args.long c.args.letters.now) (not_from_Decides _ c.other_field.ensures c.if-other_field.false) (λ z. z) (c.other_length.ensures.0 c.if-other_length.true)
 
 pub returns-in-Some : goal.returns-in-Some
-returns-in-Some g c = at_letter c.args.plan.now (g.F.Field.meaning c.args.field.now) c.args.long c.args.letters.now (not_from_Decides _ c.other-field.ensures c.if-other-field.false) (not_from_Decides _ c.other-length.ensures c.if-other-length.false) c.in-Some.i c.in-Some.ensures
+returns-in-Some g c = at_letter c.args.plan.now (g.F.Field.meaning c.args.field.now) c.args.long c.args.letters.now (not_from_Decides _ c.other_field.ensures c.if-other_field.false) (not_from_Decides _ c.other_length.ensures c.if-other_length.false) c.in-Some.i c.in-Some.ensures
 
 pub returns : goal.returns
-returns g c = at_none c.args.plan.now (g.F.Field.meaning c.args.field.now) c.args.long c.args.letters.now (not_from_Decides _ c.other-field.ensures c.if-other-field.false) (not_from_Decides _ c.other-length.ensures c.if-other-length.false) c.in-default.ensures
+returns g c = at_none c.args.plan.now (g.F.Field.meaning c.args.field.now) c.args.long c.args.letters.now (not_from_Decides _ c.other_field.ensures c.if-other_field.false) (not_from_Decides _ c.other_length.ensures c.if-other_length.false) c.in_default.ensures

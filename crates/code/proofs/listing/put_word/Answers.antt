@@ -6,6 +6,6 @@ use Rattle.code.proofs.listing.put_word.Goals as goal
 pub returns : goal.returns
 returns c =
     record {
-      written = put_part c.args.list.now c.copy-from-slice.new.self c.args.word.now c.args.start c.args.n c.copy-from-slice.ensures.after;
+      written = put_part c.args.list.now c.copy_from_slice.new.self c.args.word.now c.args.start c.args.n c.copy_from_slice.ensures.after;
       whole = length-take-le c.args.n c.args.word.now (omega (arith, c.told-word, c.requires.short));
     }

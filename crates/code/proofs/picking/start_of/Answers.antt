@@ -17,8 +17,8 @@ returns-then-i-long c = record {
   start = tt;
 }
 
-pub overflow-mul-result : goal.overflow-mul-result
-overflow-mul-result c = omega (arith, inside _ _ _ c.if-n-lt2.false c.if-i-long.false)
+pub overflow_mul-result : goal.overflow_mul-result
+overflow_mul-result c = omega (arith, inside _ _ _ c.if-n-lt2.false c.if-i-long.false)
 
 pub returns : goal.returns
 returns c =

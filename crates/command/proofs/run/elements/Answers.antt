@@ -10,18 +10,18 @@ use Rattle.command.proofs.run.elements.Goals as goal
 pub loop-word-preserved : goal.loop-word-preserved
 loop-word-preserved c =
     let words = c.args.words.now in
-    let pushed = c.in-ok-push.ensures in
+    let pushed = c.in_ok-push.ensures in
     let after = vec_items c.push.new.self in
-    let at : get_or after c.loop-word.word-index 0 ≡ c.in-ok-element.field-0 = subst (λ (n : ℕ). get_or after n 0 ≡ c.in-ok-element.field-0) c.loop-word.invariant.0 (pushed.by_index.1 0 refl) in (
+    let at : get_or after c.loop-word.word-index 0 ≡ c.in_ok-element.field-0 = subst (λ (n : ℕ). get_or after n 0 ≡ c.in_ok-element.field-0) c.loop-word.invariant.0 (pushed.by_index.1 0 refl) in (
       omega (arith, pushed.len, c.loop-word.invariant.0),
-      pushes_more (λ k x. Writes 16 (get_or (texts words) k []) x) (vec_items c.loop-word.numbers) after c.loop-word.word-index (λ k d h. pushed.by_index.0 k d (omega (arith, c.loop-word.invariant.0))) c.loop-word.invariant.1 (writes_at 16 words c.loop-word.word-index _ _ c.in-ok-element.ensures.reads at),
+      pushes_more (λ k x. Writes 16 (get_or (texts words) k []) x) (vec_items c.loop-word.numbers) after c.loop-word.word-index (λ k d h. pushed.by_index.0 k d (omega (arith, c.loop-word.invariant.0))) c.loop-word.invariant.1 (writes_at 16 words c.loop-word.word-index _ _ c.in_ok-element.ensures.reads at),
     )
 
-pub returns-in-err-element : goal.returns-in-err-element
-returns-in-err-element c =
+pub returns-in_err-element : goal.returns-in_err-element
+returns-in_err-element c =
     let words = c.args.words.now in
     let p = err_from_is_err_and c.from-residual.result c.from-residual.ensures.1 in
-    let told = c.in-err-element.ensures in
+    let told = c.in_err-element.ensures in
     rw (p.1, p.2) (subst (λ (t : Trouble). Listed (texts words) (Err t)) (sym told.trouble) (c.loop-word.word-index, subst (λ (n : ℕ). c.loop-word.word-index < n) (sym (length_texts words)) c.loop-word-test.true, writes_none_at 16 words c.loop-word.word-index told.reads))
 
 pub returns : goal.returns

@@ -11,7 +11,7 @@ loop-j-preserved g c =
     let m = g.F.Field.meaning c.args.field.now in
     let in-l : c.loop-j.j < c.args.l = omega (arith, c.loop-j-test.true, c.min-j-end.ensures) in
     let in-8 : c.loop-j.j < 8 = omega (arith, c.loop-j-test.true, c.min-j-end.ensures) in
-    discrepancies_more m c.args.rows.now c.args.degrees.now c.args.l c.args.bound c.args.weight c.args.a c.args.b c.args.u c.args.r c.loop-j.j c.loop-j.result c.live-discrepancy.result in-l in-8 c.loop-j.invariant c.live-discrepancy.ensures
+    discrepancies_more m c.args.rows.now c.args.degrees.now c.args.l c.args.bound c.args.weight c.args.a c.args.b c.args.u c.args.r c.loop-j.j c.loop-j.result c.live_discrepancy.result in-l in-8 c.loop-j.invariant c.live_discrepancy.ensures
 
 pub returns : goal.returns
 returns g c =

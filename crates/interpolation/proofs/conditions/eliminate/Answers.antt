@@ -10,7 +10,7 @@ pub loop-j-preserved : goal.loop-j-preserved
 loop-j-preserved g c =
     let m = g.F.Field.meaning c.args.field.now in
     let inside : c.loop-j.j < length c.args.rows.now = omega (arith, c.loop-j-test.true, c.told-rows) in
-    cleared_more m c.args.source.now c.args.factor c.args.l c.args.bound c.args.weight c.args.discrepancies.now c.args.rows.now c.loop-j.j c.loop-j.rows c.clear-row.new.q inside c.loop-j.invariant c.clear-row.ensures
+    cleared_more m c.args.source.now c.args.factor c.args.l c.args.bound c.args.weight c.args.discrepancies.now c.args.rows.now c.loop-j.j c.loop-j.rows c.clear_row.new.q inside c.loop-j.invariant c.clear_row.ensures
 
 pub returns : goal.returns
 returns g c =

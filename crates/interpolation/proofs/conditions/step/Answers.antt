@@ -31,8 +31,8 @@ returns-in-Some g c =
     c.reduce.ensures.rows
     c.reduce.ensures.degrees
 
-pub returns-in-default : goal.returns-in-default
-returns-in-default g c =
+pub returns-in_default : goal.returns-in_default
+returns-in_default g c =
     step_none
     (g.F.Field.meaning c.args.field.now)
     c.args.a
@@ -48,4 +48,4 @@ returns-in-default g c =
     c.pivot.result
     c.discrepancies-failing.ensures
     c.pivot.ensures
-    c.in-default.is
+    c.in_default.is

@@ -12,20 +12,20 @@ loop-u-preserved g c =
     (g.F.Field.meaning c.args.field.now)
     c.args.place
     c.loop-u.u
-    c.powers-of-x.result
+    c.powers_of_x.result
     c.args.l
     c.args.bound
     c.args.weight
     c.args.rows.now
     c.loop-u.rows
-    c.meet-column.new.rows
+    c.meet_column.new.rows
     c.args.degrees.now
     c.loop-u.degrees
-    c.meet-column.new.degrees
+    c.meet_column.new.degrees
     c.loop-u-test.true
     c.loop-u.invariant
-    c.powers-of-x.ensures
-    c.meet-column.ensures
+    c.powers_of_x.ensures
+    c.meet_column.ensures
 
 pub returns : goal.returns
 returns g c =
