@@ -2,10 +2,10 @@
 use Rattle.std.proofs.Common.{◌≡◌, ℕ, zero, suc, ◌-◌, ◌<◌, ◌≤◌, true, false, ◌≢◌, ◌⊎◌, List, [], ◌∷◌, ◌++◌, length, get_or, take, drop, set, Ordering, Less, Equal, Greater, sym, refl, ap, ◌∙◌, subst, inl, inr, ⊎_elim, true≢false, arith, length-set, get_or-set_other, get_or-set_same}
 use Rattle.std.proofs.lemmas.List.{length-take-le, take_at, drop_at}
 use Rattle.std.specs.Ordering.{is_lt, is_gt, ordering_then, ordering_reverse, nat_cmp}
-use Rattle.std.specs.Cmp.Lexicographic.{lexical, slice_cmp, lists_total}
+use Rattle.std.specs.Cmp.Lexicographic.{slice_cmp, lists_total}
 use Rattle.std.specs.List.Sorted.{IsPermutation, IsSortedWithin}
 use Rattle.std.specs.List.{swap, ContainsAt as Has}
-use Rattle.std.specs.Cmp.{nat_cmp_total}
+use Rattle.std.specs.Cmp.{nat_cmp_total, nat_cmp_is}
 use Rattle.std.proofs.lemmas.List.Sorted.{sorted_far, IsPermutation-keeps, IsPermutation-sym, length_permutation}
 use Rattle.std.proofs.ByRecursion.{has_shuffled}
 use Rattle.std.proofs.lemmas.List.MinMax.{ranks_by}
@@ -30,10 +30,10 @@ earlier_less (x ∷ v) (y ∷ w) l e =
 
     greater : y < x → Earlier (x ∷ v) (y ∷ w)
     greater h =
-        absurd (true≢false (ap is_gt (ap (λ r. ordering_then r (slice_cmp nat_cmp v w)) (nat_cmp_total.says x y Greater h) ∙ e)))
+        absurd (true≢false (ap is_gt (ap (λ r. ordering_then r (slice_cmp nat_cmp v w)) (nat_cmp_is x y Greater h) ∙ e)))
 
     rest : x ≡ y → slice_cmp nat_cmp v w ≡ Less
-    rest h = ap (λ r. ordering_then r (slice_cmp nat_cmp v w)) (nat_cmp_total.says x y Equal h) ∙ e
+    rest h = ap (λ r. ordering_then r (slice_cmp nat_cmp v w)) (nat_cmp_is x y Equal h) ∙ e
 
     further : x ≡ y → Earlier v w → Earlier (x ∷ v) (y ∷ w)
     further h r =
@@ -50,7 +50,7 @@ not_after v w l ne h = go (slice_cmp nat_cmp v w) refl
     go : (r : Ordering) → slice_cmp nat_cmp v w ≡ r → Earlier v w
     go Less e = earlier_less v w l e
     go Equal e = absurd (ne (exact_bytes v w e))
-    go Greater e = absurd (true≢false (sym (ap is_lt ((lexical nat_cmp_total).flip w v ∙ ap ordering_reverse e)) ∙ h))
+    go Greater e = absurd (true≢false (sym (ap is_lt ((lists_total nat_cmp_total).antisymm w v ∙ ap ordering_reverse e)) ∙ h))
 
 -- words that are all different
 abbrev pub Different : List (List ℕ) → Type 0
@@ -167,7 +167,7 @@ Sorted zs n = IsSortedWithin (λ x y. is_lt (slice_cmp nat_cmp x y)) zs 0 n
 pub sorted_part : (words part : List (List ℕ)) (count : ℕ)
     → count ≤ length words
     → IsPermutation (take (count - 0) words) part
-    → Sorted part (length (take (count - 0) words))
+    → Sorted part (length part)
     → IsPermutation (take count words) (take count (part ++ drop (count - 0) words))
     × Sorted (take count (part ++ drop (count - 0) words)) count
     × (drop count (part ++ drop (count - 0) words) ≡ drop count words)
@@ -178,6 +178,6 @@ sorted_part words part count h s up =
     let l : length part ≡ count = length_permutation (take (count - 0) words) part s ∙ k in
     let e : take count (part ++ drop (count - 0) words) ≡ part = take_at part (drop (count - 0) words) count l in (
       subst (IsPermutation (take count words)) (sym e) (subst (λ xs. IsPermutation xs part) w s),
-      subst (λ xs. Sorted xs count) (sym e) (subst (Sorted part) k up),
+      subst (λ xs. Sorted xs count) (sym e) (subst (Sorted part) l up),
       drop_at part (drop (count - 0) words) count l ∙ ap (λ n. drop n words) z,
     )

@@ -68,7 +68,7 @@ fn sort(words: &mut [[u16; 64]; 7], count: usize)
     ensures rest { drop count words.new ≡ drop count words.old }
 {
     let part = &mut words[0..count];
-    part.sort();
+    part.sort_unstable();
 }
 
 fn word_at(words: &[[u16; 64]; 7], i: usize) -> [u16; 64]
