@@ -11,7 +11,7 @@ pub loop-letter-preserved : goal.loop-letter-preserved
 loop-letter-preserved g c p =
     let took = g.W.Write.write_str_gives in
     let before = c.loop-letter.invariant p in
-    has_written_of_eq took _ _ _ _ (spaced_more c.args.self.now.letters.now c.loop-letter.letter-index c.loop-letter-test.true) (has_written_append took _ _ _ _ _ before (c.in_ok-write.ensures.shows before.plain refl))
+    has_written_of_eq took _ _ _ _ (spaced_more c.args.self.now.letters.now c.loop-letter.letter-index c.loop-letter-test.true) (has_written_append took _ _ _ _ _ before (c.in_ok-write.ensures.writes before.plain refl))
 
 pub returns-clause-writes : goal.returns-clause-writes
 returns-clause-writes g c p _ = has_written_of_eq g.W.Write.write_str_gives _ _ _ _ (ap spaced (take_all _ _ c.loop-letter-test.false)) (c.loop-letter.invariant p)

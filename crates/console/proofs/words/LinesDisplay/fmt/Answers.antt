@@ -12,7 +12,7 @@ loop-i-preserved g c p =
     let took = g.W.Write.write_str_gives in
     let words = c.args.self.now.words.now in
     let before = c.loop-i.invariant p in
-    has_written_of_eq took _ _ _ _ (lined_more words.n words.list c.loop-i.i c.word.result.now c.word.ensures) (has_written_append took _ _ _ _ _ before (c.in_ok-write.ensures.shows before.plain refl))
+    has_written_of_eq took _ _ _ _ (lined_more words.n words.list c.loop-i.i c.word.result.now c.word.ensures) (has_written_append took _ _ _ _ _ before (c.in_ok-write.ensures.writes before.plain refl))
 
 pub returns-clause-writes : goal.returns-clause-writes
 returns-clause-writes g c p _ =
