@@ -20,7 +20,7 @@ loop-word-preserved c =
 pub returns-in_err-element : goal.returns-in_err-element
 returns-in_err-element c =
     let words = c.args.words.now in
-    let p = err_from_is_err_and c.from-residual.result c.from-residual.ensures.1 in
+    let p = err_from_is_err_and c.from_residual.result c.from_residual.ensures.1 in
     let told = c.in_err-element.ensures in
     rw (p.1, p.2) (subst (λ (t : Trouble). Listed (texts words) (Err t)) (sym told.trouble) (c.loop-word.word-index, subst (λ (n : ℕ). c.loop-word.word-index < n) (sym (length_texts words)) c.loop-word-test.true, writes_none_at 16 words c.loop-word.word-index told.reads))
 

@@ -15,6 +15,6 @@ loop-i-preserved c =
 
 pub returns-in_err-six : goal.returns-in_err-six
 returns-in_err-six c =
-    let p = err_from_is_err_and c.from-residual.result c.from-residual.ensures.1 in
+    let p = err_from_is_err_and c.from_residual.result c.from_residual.ensures.1 in
     let told = c.in_err-six.ensures in
     rw (p.1, p.2) (told.trouble, (c.loop-i.i, c.loop-i-test.true, subst (WritesNone 64) c.word.ensures told.reads))

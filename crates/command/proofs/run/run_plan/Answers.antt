@@ -11,7 +11,7 @@ use Rattle.command.proofs.run.run_plan.Goals as goal
 pub returns-in_err-six : goal.returns-in_err-six
 returns-in_err-six c =
     let ws = texts c.args.words.now in
-    let p = err_from_is_err_and c.from-residual.result c.from-residual.ensures.1 in
+    let p = err_from_is_err_and c.from_residual.result c.from_residual.ensures.1 in
     let told = c.in_err-six.ensures in
     rw (p.1, p.2) (subst (λ (t : Trouble). RanPlan ws c.args.console.now (Err t) c.args.console.now) (sym told.0) (refl, no_six ws told.1))
 
@@ -19,7 +19,7 @@ pub returns-in_err-support : goal.returns-in_err-support
 returns-in_err-support c =
     let words = c.args.words.now in
     let j = c.in-Some.slash in
-    let p = err_from_is_err_and c.from-residual-in_err-support.result c.from-residual-in_err-support.ensures.1 in
+    let p = err_from_is_err_and c.from_residual-in_err-support.result c.from_residual-in_err-support.ensures.1 in
     let told = subst (λ (ws : List (List ℕ)). Listed ws (Err c.in_err-support.field-0.0)) (texts_part (j - 8) 8 words) c.in_err-support.ensures in
     rw (p.1, p.2) (not_listed (take (j - 8) (drop 8 (texts words))) (texts words) c.args.console.now _ told (no_support (texts words) j c.in-Some.ensures.first))
 
@@ -27,7 +27,7 @@ pub returns-in_err-multipliers : goal.returns-in_err-multipliers
 returns-in_err-multipliers c =
     let words = c.args.words.now in
     let j = c.in-Some.slash in
-    let p = err_from_is_err_and c.from-residual-in_err-multipliers.result c.from-residual-in_err-multipliers.ensures.1 in
+    let p = err_from_is_err_and c.from_residual-in_err-multipliers.result c.from_residual-in_err-multipliers.ensures.1 in
     let told = subst (λ (ws : List (List ℕ)). Listed ws (Err c.in_err-multipliers.field-0.0)) (texts_rest (j + 1) words) c.in_err-multipliers.ensures in
     rw (p.1, p.2) (not_listed (drop (j + 1) (texts words)) (texts words) c.args.console.now _ told (no_multipliers (texts words) j c.in-Some.ensures.first))
 
