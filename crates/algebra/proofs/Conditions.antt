@@ -4,7 +4,7 @@ use mathlib.Core.List.{List, [], ◌∷◌, ◌++◌, append-nil, append_assoc}
 use mathlib.Core.Logic.{◌⊎◌, inl, inr}
 use Prim.Native.Nat.{ℕ, zero, suc, ◌+◌}
 use native.Mathlib.Omega.{arith}
-use Rattle.algebra.proofs.ListMembers.{member_left, member_right, member_append}
+use Rattle.algebra.proofs.ListMembers.{member_left, member_append}
 use Rattle.algebra.specs.Members.{Member}
 use Rattle.algebra.specs.Conditions.{Condition, at_power, Prepared, Follows, WellOrdered}
 

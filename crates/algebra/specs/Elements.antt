@@ -1,7 +1,7 @@
 -- The numbers below the size of a lawful finite field, as a field in the sense of algebra.
 use Rattle.std.proofs.Math.Path.{◌≡◌, ap}
 use mathlib.Core.HLevel.{Σ_prop_path, Σ_prop_discrete, hedberg}
-use Prim.Native.Nat.{ℕ, zero, ◌<◌}
+use Prim.Native.Nat.{ℕ, ◌<◌}
 use Rattle.std.proofs.Math.Bridge.{le_prop}
 use Rattle.std.proofs.Math.Decide.{dec_lt, ℕ_discrete}
 use native.Mathlib.Omega.{arith}

@@ -1,5 +1,5 @@
 -- The numbers of the rows and polynomials that the functions make.
-use Rattle.std.proofs.Common.{◌≡◌, ℕ, zero, suc, ◌+◌, ◌-◌, ◌*◌, ◌<◌, ◌≤◌, min, ◌⊎◌, List, [], get_or, sym, refl, ap, ◌∙◌, subst, inl, inr, add-mul, mul-add, arith}
+use Rattle.std.proofs.Common.{◌≡◌, ℕ, suc, ◌+◌, ◌-◌, ◌*◌, ◌<◌, ◌≤◌, min, ◌⊎◌, List, [], get_or, sym, refl, ap, ◌∙◌, inl, inr, add-mul, mul-add, arith}
 use Rattle.std.proofs.lemmas.Bool.{cases_lt}
 use Rattle.field.specs.Meaning.{Meaning, sum_of, negative_of, product_of}
 use Rattle.bivariate.specs.Horner.{before}

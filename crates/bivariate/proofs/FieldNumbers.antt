@@ -1,8 +1,8 @@
 -- The total operations on numbers are those of the field on its elements, and their results are elements.
-use Rattle.std.proofs.Common.{◌≡◌, ℕ, ◌<◌, Bool, true, false, cond, ◌&&◌, ltb, ◌⊎◌, sym, ap, ◌∙◌, subst, ap₂, inl, inr, arith}
+use Rattle.std.proofs.Common.{◌≡◌, ℕ, ◌<◌, Bool, true, false, cond, ◌&&◌, ltb, ◌⊎◌, sym, ap, ◌∙◌, subst, inl, inr, arith}
 use Rattle.std.proofs.lemmas.Bool.{cases_Bool, cond-true, cond-false, lt-ltb, ltb-true, and_from, and_parts}
 use Rattle.algebra.specs.Operations.{Lawful}
-use Rattle.algebra.specs.Elements.{Elem, element_ring, into}
+use Rattle.algebra.specs.Elements.{element_ring, into}
 use Rattle.algebra.proofs.Elements.{into_sum, into_product, into_negative}
 use Rattle.field.specs.Meaning.{Meaning, operations, sum_of, negative_of, product_of}
 

@@ -11,17 +11,17 @@ use Rattle.algebra.proofs.Coefficients.{constant_at_zero, constant_at_suc}
 use Rattle.algebra.specs.Degree.{Below}
 use Rattle.algebra.specs.Elements.{Elem, element_ring, into}
 use Rattle.algebra.specs.Evaluation.{taylor}
-use Rattle.algebra.specs.Bivariate.{Bivariate, scale, y_power}
+use Rattle.algebra.specs.Bivariate.{scale, y_power}
 use Rattle.algebra.specs.Conditions.{condition, discrepancy}
 use Rattle.algebra.specs.Koetter.{less}
 use Rattle.algebra.proofs.Elements.{into_zero, into_one}
 use Rattle.algebra.proofs.Head.{is_less}
 use Rattle.algebra.proofs.Taylor.{taylor_bound}
 use Rattle.algebra.proofs.KoetterRefinement.{discrepancy_nested, is_x_minus, is_y_power}
-use Rattle.field.specs.Meaning.{Meaning, operations, sum_of, negative_of, product_of}
+use Rattle.field.specs.Meaning.{Meaning, operations, negative_of}
 use Rattle.bivariate.specs.Made.{made}
 use Rattle.bivariate.specs.Horner.{entries, before, coefficient_of}
-use Rattle.bivariate.specs.Combinations.{row_length, discrepancy_of, plus_of, minus_of, times_of, changed, minus_polynomial_of, times_polynomial_of, y_power_of}
+use Rattle.bivariate.specs.Combinations.{row_length, discrepancy_of, plus_of, minus_of, times_of, minus_polynomial_of, times_polynomial_of, y_power_of}
 use Rattle.bivariate.specs.Lifted.{polynomial_of, PolynomialOf, RowOf, Within, Narrow, Spare, Sized}
 use Rattle.bivariate.proofs.Steps.{before_zero, before_suc}
 use Rattle.bivariate.proofs.FieldNumbers.{zero_element, sum_element, negative_element, into_negative_of, into_multiple}

@@ -19,7 +19,7 @@ use Rattle.algebra.proofs.RootSteps.{next_start}
 use Rattle.algebra.proofs.Columns.{next_shifted}
 use Rattle.field.specs.Meaning.{Meaning, operations}
 use Rattle.bivariate.specs.Combinations.{row_length, plus_of}
-use Rattle.bivariate.specs.Roots.{column, all_zero, lower_row, lower_of, column_value_of, shift_step_of, shift_of, raise_row, raise_of, shifted_of}
+use Rattle.bivariate.specs.Roots.{column, all_zero, lower_of, column_value_of, shift_step_of, shift_of, raise_of, shifted_of}
 use Rattle.bivariate.specs.Lifted.{polynomial_of, PolynomialOf, Within, Narrow, Sized, Room}
 use Rattle.bivariate.proofs.Searching.{all_zero_at, all_zero_from, shift_zero, shift_suc}
 use Rattle.bivariate.proofs.FieldNumbers.{zero_element}

@@ -1,5 +1,5 @@
 -- The sizes of polynomials of numbers, and the degrees of the polynomials over the field that they stand for.
-use Rattle.std.proofs.Common.{◌≡◌, ℕ, suc, ◌+◌, ◌-◌, ◌*◌, ◌<◌, ◌≤◌, min, List, [], get_or, sym, ap, ◌∙◌, mul_comm, arith}
+use Rattle.std.proofs.Common.{◌≡◌, ℕ, suc, ◌+◌, ◌-◌, ◌*◌, ◌≤◌, List, [], get_or, sym, ap, ◌∙◌, mul_comm, arith}
 use mathlib.Core.Path.{fun_ext}
 use Rattle.algebra.specs.Operations.{Operations, Lawful}
 use Rattle.algebra.specs.Ring.{CommRing}

@@ -3,8 +3,7 @@ use Rattle.std.proofs.Common.{◌≡◌, ℕ, zero, suc, ◌+◌, ◌-◌, ◌<�
 use Rattle.std.proofs.lemmas.List.{get_or_past}
 use Rattle.std.proofs.lemmas.Bool.{cases_eq, and_from, and_left, and_right, and_parts, eq-eqb, ne_eqb, eqb-true, eqb-false}
 use Rattle.field.specs.Meaning.{Meaning}
-use Rattle.bivariate.specs.Horner.{value_of}
-use Rattle.bivariate.specs.Combinations.{row_length, plus_of, changed}
+use Rattle.bivariate.specs.Combinations.{row_length, plus_of}
 use Rattle.bivariate.specs.Roots.{all_zero, lower_row, shift_step_of, shift_of, raise_row}
 use Rattle.bivariate.proofs.Upto.{Upto, upto_from, upto_write, upto_all, upto_here, pick_below, pick_above}
 

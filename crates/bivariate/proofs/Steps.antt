@@ -2,7 +2,7 @@
 use Rattle.std.proofs.Common.{◌≡◌, ℕ, zero, suc, ◌+◌, ◌-◌, ◌<◌, ◌≤◌, min, cond, ltb, List, length, get_or, set, replicate, sym, refl, ap, ◌∙◌, ap₂, arith}
 use Rattle.field.specs.Meaning.{Meaning, sum_of, product_of}
 use lib.ListN.{length-replicate, get_or-replicate}
-use Rattle.bivariate.proofs.Upto.{Upto, upto_here, upto_write, upto_all, made_at, made_past, made_is, made_same, length_made, pick_below, pick_above, pick_same}
+use Rattle.bivariate.proofs.Upto.{Upto, upto_here, upto_write, upto_all, made_at, made_past, made_is, made_same, pick_below, pick_above, pick_same}
 use Rattle.bivariate.specs.Horner.{value_of, taylor_of, before, pushed, expansion_of, coefficient_of}
 
 module _ (m : Meaning) (a : ℕ) (cs : ℕ → ℕ) where

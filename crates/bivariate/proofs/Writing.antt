@@ -1,5 +1,5 @@
 -- The steps of the loops that write rows and polynomials.
-use Rattle.std.proofs.Common.{◌≡◌, ℕ, zero, suc, ◌+◌, ◌-◌, ◌*◌, ◌^◌, ◌<◌, ◌≤◌, min, cond, ltb, List, [], length, get_or, set, sym, refl, ap, ◌∙◌, ap₂, arith}
+use Rattle.std.proofs.Common.{◌≡◌, ℕ, suc, ◌+◌, ◌-◌, ◌*◌, ◌^◌, ◌<◌, ◌≤◌, min, cond, ltb, List, [], length, get_or, set, sym, ap, ◌∙◌, ap₂, arith}
 use Rattle.field.specs.Meaning.{Meaning, sum_of, negative_of, product_of}
 use Rattle.bivariate.specs.Horner.{before}
 use Rattle.bivariate.specs.Combinations.{row_length, plus_of, times_of, changed}

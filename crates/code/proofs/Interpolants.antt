@@ -1,10 +1,9 @@
 -- The polynomial that interpolates the word heard: it exists, its sizes fit the arrays, and it is in the lattice.
-use Rattle.std.proofs.Common.{◌≡◌, ℕ, suc, ◌+◌, ◌-◌, ◌*◌, ◌/◌, ◌^◌, ◌<◌, ◌≤◌, Bool, true, List, [], ◌∷◌, length, get_or, sym, ap, ◌∙◌, subst, ⊎_elim, arith}
+use Rattle.std.proofs.Common.{◌≡◌, ℕ, suc, ◌+◌, ◌-◌, ◌*◌, ◌/◌, ◌^◌, ◌<◌, ◌≤◌, Bool, true, List, [], ◌∷◌, get_or, sym, ◌∙◌, subst, ⊎_elim, arith}
 use Rattle.std.proofs.lemmas.Bool.{cases_order}
 use Rattle.algebra.specs.Operations.{Operations, Lawful}
 use Rattle.algebra.specs.Ring.{CommRing, Field}
 use Rattle.algebra.specs.Elements.{Elem, element_ring, elements}
-use Rattle.algebra.specs.Series.{series}
 use Rattle.algebra.specs.Degree.{Below}
 use Rattle.algebra.specs.Bivariate.{Bivariate}
 use Rattle.algebra.specs.Interpolation.{Separate, newton}
@@ -23,9 +22,9 @@ use Rattle.plan.proofs.Facts as facts
 use Rattle.bivariate.specs.Made.{made}
 use Rattle.bivariate.specs.Lifted.{polynomial_of, Sized}
 use Rattle.bivariate.proofs.LiftedSizes.{weighted_within, below_narrow}
-use Rattle.interpolation.specs.Runs.{places_over, Interpolant, LeastInterpolant}
+use Rattle.interpolation.specs.Runs.{Interpolant}
 use Rattle.code.specs.Decoding.{places_of}
-use Rattle.code.specs.Listing.{weight_of, width_of, points, ordinates, Through, InLatticeOf, Interpolates}
+use Rattle.code.specs.Listing.{weight_of, width_of, points, ordinates, Through, Interpolates}
 use Rattle.code.proofs.PlacesHeard as places
 
 module _ (p : Plan) (m : Meaning) (law : Lawful (operations m)) (same : p.size ≡ m.size) (heard : List ℕ) where

@@ -1,5 +1,5 @@
 -- The words near the word heard are the words of those roots that are near it.
-use Rattle.std.proofs.Common.{◌≡◌, ℕ, suc, ◌-◌, ◌<◌, ◌≤◌, ◌⊎◌, ◌↔◌, List, [], ◌∷◌, map, length, get_or, take, sym, refl, ap, ◌∙◌, subst, ap₂, inl, inr, arith}
+use Rattle.std.proofs.Common.{◌≡◌, ℕ, suc, ◌-◌, ◌<◌, ◌≤◌, ◌⊎◌, List, [], ◌∷◌, map, length, get_or, take, sym, refl, ap, ◌∙◌, subst, ap₂, inl, inr, arith}
 use Rattle.std.specs.Ordering.{is_lt, nat_cmp}
 use Rattle.std.specs.List.Sorted.{IsPermutation, IsSortedWithin}
 use Rattle.std.proofs.lemmas.List.{get_or-take, get_or-map, length-map, length-take-le}
@@ -9,7 +9,6 @@ use Rattle.std.proofs.lemmas.Bool.{cases_lt}
 use Rattle.algebra.specs.Operations.{Operations, Lawful}
 use Rattle.algebra.specs.Ring.{CommRing}
 use Rattle.algebra.specs.Elements.{Elem, element_ring, elements, into}
-use Rattle.algebra.specs.Evaluation.{from_list}
 use Rattle.algebra.specs.Bivariate.{Bivariate}
 use Rattle.algebra.specs.Koetter.{Interpolates}
 use Rattle.algebra.specs.Members.{Member}
@@ -20,12 +19,12 @@ use Rattle.algebra.proofs.Completeness.{complete, distinct_by_abscissae}
 use Rattle.algebra.proofs.ListMembers.{member_at, separate_members}
 use Rattle.field.specs.Meaning.{Meaning, operations}
 use Rattle.plan.specs.declared.Plan.{Plan}
-use Rattle.poly.specs.Polynomials.{Polynomial, Elements}
-use Rattle.code.specs.Codes.{InCode, Letters, Evaluates}
-use Rattle.code.specs.Decoding.{evaluated_of, Near, candidate_of, Kept}
+use Rattle.poly.specs.Polynomials.{Polynomial}
+use Rattle.code.specs.Codes.{InCode, Evaluates}
+use Rattle.code.specs.Decoding.{Near, candidate_of, Kept}
 use Rattle.code.specs.Listing.{distance, Earlier, Rising, Nearby, weight_of, width_of}
 use Rattle.code.proofs.PlacesHeard as places
-use Rattle.code.proofs.Codewords.{evaluated_length, evaluated_past, word_of, word_is, evaluates, in_code, near_word, one_word, series, series_below, goes_through, lift, lift_series, numbers_lift}
+use Rattle.code.proofs.Codewords.{evaluated_length, evaluated_past, word_of, word_is, in_code, near_word, one_word, series, series_below, goes_through, lift, lift_series, numbers_lift}
 use Rattle.code.proofs.Sorting.{Different, shuffled_different, member_index, rising_from, sorted_earlier}
 use Rattle.std.specs.Cmp.Lexicographic.{slice_cmp}
 

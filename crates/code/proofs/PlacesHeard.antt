@@ -1,13 +1,13 @@
 -- The places of the word heard: they suit the interpolation, stand at distinct points, and a polynomial goes through those
 -- where its word agrees with the word heard.
-use Rattle.std.proofs.Common.{◌≡◌, ℕ, zero, suc, ◌+◌, ◌-◌, ◌*◌, ◌<◌, ◌≤◌, true, false, cond, eqb, ◌⊎◌, List, [], ◌∷◌, map, length, get_or, sym, refl, ap, ◌∙◌, subst, ap₂, inl, inr, mul-le-mul, mul-zero, mul-one, mul-suc, mul-add, arith}
+use Rattle.std.proofs.Common.{◌≡◌, ℕ, zero, suc, ◌+◌, ◌-◌, ◌*◌, ◌<◌, ◌≤◌, true, false, cond, eqb, ◌⊎◌, List, ◌∷◌, map, length, get_or, sym, refl, ap, ◌∙◌, subst, ap₂, inl, inr, mul-le-mul, mul-zero, mul-one, mul-suc, mul-add, arith}
 use native.Mathlib.Nat.{mul-sub}
 use Rattle.std.specs.List.{range_with_len}
 use Rattle.std.proofs.lemmas.List.FromFn.{fill_by_all}
-use Rattle.std.proofs.lemmas.Bool.{cases_eq, cases_Bool, eqb-true, cond-true, cond-false}
+use Rattle.std.proofs.lemmas.Bool.{cases_Bool, eqb-true, cond-false}
 use Rattle.algebra.specs.Operations.{Operations, Lawful}
 use Rattle.algebra.specs.Ring.{CommRing, Field}
-use Rattle.algebra.specs.Elements.{Elem, element_ring, elements, into}
+use Rattle.algebra.specs.Elements.{Elem, element_ring, elements}
 use Rattle.algebra.specs.Series.{Series}
 use Rattle.algebra.specs.Evaluation.{eval}
 use Rattle.algebra.specs.Order.{total, Differs, Distinct}
@@ -20,8 +20,8 @@ use Rattle.plan.specs.declared.Plan.{Plan}
 use Rattle.plan.proofs.Facts as facts
 use Rattle.poly.proofs.Elementary as elementary
 use Rattle.interpolation.specs.declared.places.Place.{Place}
-use Rattle.interpolation.specs.Runs.{place_of, places_over, Suited, AllSuited}
-use Rattle.code.specs.Codes.{support_of, multipliers_of}
+use Rattle.interpolation.specs.Runs.{place_of, places_over, AllSuited}
+use Rattle.code.specs.Codes.{support_of}
 use Rattle.code.specs.Decoding.{place_at}
 use Rattle.code.specs.Listing.{distance, width_of, points, ordinates}
 

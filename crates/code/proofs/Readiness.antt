@@ -6,10 +6,9 @@ use Rattle.field.specs.Meaning.{Meaning}
 use Rattle.plan.specs.declared.Plan.{Plan}
 use Rattle.code.specs.declared.refusal.CodeFault.{CodeFault}
 use Rattle.code.specs.declared.refusal.CodeFault.TheVariants.{Field, Shape, Length, Letter, Content, Room, Workspace}
-use Rattle.code.specs.Codes.{Letters}
 use Rattle.code.specs.Faults.{refusal_of, ReadFails, ListFails, space_fault}
 use Rattle.code.proofs.Order.{first_field, first_length, first_letter, first_room, first_workspace, no_fault}
-use Rattle.code.proofs.Reading.{same_size, same_length, letters}
+use Rattle.code.proofs.Reading.{same_size, same_length}
 
 module _ (p : Plan) (m : Meaning) (heard : List ℕ) (room space : ℕ) where
   abbrev Fails : CodeFault → Type 0

@@ -1,20 +1,18 @@
 -- Words in the order of a sort rise, where none stands twice.
-use Rattle.std.proofs.Common.{◌≡◌, ℕ, zero, suc, ◌-◌, ◌<◌, ◌≤◌, true, false, ◌≢◌, ◌⊎◌, List, [], ◌∷◌, ◌++◌, length, get_or, take, drop, set, Ordering, Less, Equal, Greater, sym, refl, ap, ◌∙◌, subst, inl, inr, ⊎_elim, true≢false, arith, length-set, get_or-set_other, get_or-set_same}
+use Rattle.std.proofs.Common.{◌≡◌, ℕ, zero, suc, ◌-◌, ◌<◌, ◌≤◌, false, ◌⊎◌, List, [], ◌∷◌, ◌++◌, length, get_or, take, drop, set, Ordering, Less, Equal, Greater, sym, refl, ap, ◌∙◌, subst, inl, inr, ⊎_elim, true≢false, arith, length-set, get_or-set_other, get_or-set_same}
 use Rattle.std.proofs.lemmas.List.{length-take-le, take_at, drop_at}
 use Rattle.std.specs.Ordering.{is_lt, is_gt, ordering_then, ordering_reverse, nat_cmp}
 use Rattle.std.specs.Cmp.Lexicographic.{slice_cmp, lists_total}
 use Rattle.std.specs.List.Sorted.{IsPermutation, IsSortedWithin}
-use Rattle.std.specs.List.{swap, ContainsAt as Has}
+use Rattle.std.specs.List.{swap}
 use Rattle.std.specs.Cmp.{nat_cmp_total, nat_cmp_is}
-use Rattle.std.proofs.lemmas.List.Sorted.{sorted_far, IsPermutation-keeps, IsPermutation-sym, length_permutation}
-use Rattle.std.proofs.ByRecursion.{has_shuffled}
+use Rattle.std.proofs.lemmas.List.Sorted.{sorted_far, IsPermutation-keeps, length_permutation}
 use Rattle.std.proofs.lemmas.List.MinMax.{ranks_by}
 use Rattle.std.proofs.lemmas.Map.Lookups.{exact_bytes}
 use Rattle.std.proofs.lemmas.List.Edits.{length-swap, swap_is}
 use Rattle.std.proofs.lemmas.Bool.{cases_eq, cases_order}
-use Rattle.algebra.specs.Members.{Member, NoRepetition}
+use Rattle.algebra.specs.Members.{Member}
 use Rattle.algebra.specs.Interpolation.{Separate}
-use Rattle.algebra.proofs.ListMembers.{member_at, separate_members}
 use Rattle.code.specs.Listing.{Earlier, Rising}
 
 -- a word that is less in the order of a sort comes before

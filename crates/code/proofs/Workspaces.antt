@@ -1,9 +1,9 @@
 -- What stands in the workspace after a polynomial was written to it.
-use Rattle.std.proofs.Common.{◌≡◌, ℕ, ◌+◌, ◌-◌, ◌*◌, ◌/◌, ◌%◌, ◌<◌, ◌≤◌, min, true, false, cond, ◌&&◌, ltb, ◌⊎◌, List, [], length, get_or, drop, sym, ap, ◌∙◌, subst, inl, inr, mod-lt, mul_comm, div-lt_iff_lt-mul, div-add-mod', arith}
+use Rattle.std.proofs.Common.{◌≡◌, ℕ, ◌+◌, ◌-◌, ◌*◌, ◌/◌, ◌%◌, ◌<◌, ◌≤◌, min, ◌&&◌, ltb, ◌⊎◌, List, [], length, get_or, drop, sym, ap, ◌∙◌, subst, inl, inr, mod-lt, div-lt_iff_lt-mul, div-add-mod', arith}
 use mathlib.Core.Path.{fun_ext}
 use Rattle.std.proofs.lemmas.List.{ext_get_or, get_or-drop, length-drop}
 use Rattle.std.proofs.lemmas.Bool.{cases_lt, cond-true, cond-false, lt-ltb, le-ltb, and_from, and_left, and_right}
-use Rattle.algebra.specs.Operations.{Operations, Lawful}
+use Rattle.algebra.specs.Operations.{Lawful}
 use Rattle.algebra.specs.Elements.{into}
 use Rattle.field.specs.Meaning.{Meaning, operations}
 use Rattle.plan.specs.declared.Plan.{Plan}

@@ -1,5 +1,5 @@
 -- The refusals of the layer of codes: their numbers and their conditions.
-use Rattle.std.specs.Prelude.{◌≡◌, ℕ, ◌+◌, ◌-◌, ◌*◌, ◌<◌, cond, ◌≢◌, ◌⊎◌, List, length, Some, None, Option, nat_lt, slice_index}
+use Rattle.std.specs.Prelude.{ℕ, ◌+◌, ◌-◌, ◌*◌, ◌<◌, cond, ◌≢◌, ◌⊎◌, List, length, Some, None, Option, nat_lt, slice_index}
 use Rattle.fault.specs.declared.Layer.TheVariants.{Plan as PlanLayer, Code as CodeLayer}
 use Rattle.fault.specs.declared.Refusal.{Refusal}
 use Rattle.field.specs.Meaning.{Meaning, Letter as IsLetter}

@@ -1,6 +1,6 @@
 -- Listing: the words of the code near a word heard, and the polynomial from whose roots they come.
 use Rattle.std.specs.Prelude.{◌≡◌, ℕ, ◌+◌, ◌-◌, ◌*◌, ◌<◌, ◌≤◌, cond, ◌&&◌, ◌↔◌, List, [], ◌∷◌, ◌++◌, length, drop, ◌==◌, nat_lt, slice_index, slice_index_or}
-use Rattle.algebra.specs.Operations.{Operations, Lawful}
+use Rattle.algebra.specs.Operations.{Lawful}
 use Rattle.algebra.specs.Elements.{Elem, element_ring, into}
 use Rattle.algebra.specs.Series.{Series}
 use Rattle.algebra.specs.Degree.{Below}

@@ -1,5 +1,5 @@
 -- Loops that read one number after another.
-use Rattle.std.proofs.Common.{◌≡◌, ℕ, ◌+◌, ◌<◌, ◌≤◌, ◌≢◌, List, [], length, get_or, set, sym, refl, ap, ◌∙◌, subst, arith, get_or-set_other, get_or-set_same, Bor, below_more}
+use Rattle.std.proofs.Common.{◌≡◌, ℕ, ◌+◌, ◌<◌, ◌≢◌, List, [], length, get_or, set, sym, subst, arith, get_or-set_other, get_or-set_same, Bor, below_more}
 use Rattle.command.specs.Lines.{texts}
 use Rattle.command.specs.Runs.{Writes, WritesNone}
 use Rattle.command.proofs.WordTests.{text_at}

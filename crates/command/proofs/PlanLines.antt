@@ -1,9 +1,9 @@
 -- What reading the words of a plan shows of the line.
-use Rattle.std.proofs.Common.{◌≡◌, ℕ, zero, suc, ◌+◌, ◌-◌, ◌<◌, ◌≤◌, ◌⊎◌, List, [], ◌∷◌, map, length, get_or, take, drop, Some, None, Ok, Err, vec_items, codes, sym, refl, ap, ◌∙◌, subst, inl, inr, arith, length-drop, take_all, Bor}
+use Rattle.std.proofs.Common.{◌≡◌, ℕ, zero, suc, ◌+◌, ◌-◌, ◌<◌, List, [], ◌∷◌, length, get_or, take, drop, Some, Err, sym, refl, ap, ◌∙◌, subst, arith, length-drop, take_all, Bor}
 use native.Mathlib.Decide.{dec_lt}
 use Rattle.std.proofs.lemmas.List.{take-map, drop-map}
 use Rattle.plan.specs.declared.asked.Parameters.{Parameters}
-use Rattle.command.specs.Lines.{texts, Word, FirstSlash}
+use Rattle.command.specs.Lines.{texts, FirstSlash}
 use Rattle.command.specs.Runs.{Writes, WritesNone, SixNumbers, NoNumber, Elements, Listed, PlanLine, RanPlan}
 use Rattle.console.specs.declared.answer.Trouble.{Trouble}
 use Rattle.console.specs.declared.answer.Trouble.TheVariants.{Unknown, Number, NoField, Memory}

@@ -1,5 +1,5 @@
 -- What a line does to the console.
-use Rattle.std.specs.Prelude.{◌≡◌, ℕ, ◌+◌, ◌-◌, ◌<◌, true, false, ◌⊎◌, List, [], ◌∷◌, length, drop, Some, Ok, Err, vec_items, Result, Vec, MatchResult, slice_index, slice_index_or, slice_range}
+use Rattle.std.specs.Prelude.{◌≡◌, ℕ, ◌+◌, ◌<◌, true, false, ◌⊎◌, List, [], ◌∷◌, length, drop, Some, Ok, Err, vec_items, Result, Vec, MatchResult, slice_index, slice_index_or, slice_range}
 use Rattle.std.specs.Str.Parse.{ParsesUnsigned}
 use Rattle.std.specs.declared.alloc.Global.{Global}
 use Rattle.plan.specs.declared.asked.Parameters.{Parameters}

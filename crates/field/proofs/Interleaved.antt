@@ -1,13 +1,13 @@
 -- Shifting and reducing in turn gives the remainder of the product.
-use Rattle.std.proofs.Common.{◌≡◌, ℕ, zero, suc, ◌+◌, ◌-◌, ◌*◌, ◌/◌, ◌%◌, ◌^◌, ◌<◌, ◌≤◌, Bool, true, false, T, eqb, ltb, ◌⊎◌, List, [], ◌∷◌, sym, refl, ap, ◌∙◌, subst, inl, inr, one-mul, zero-mul, div-one, arith, eqb→eq, ltb→lt}
+use Rattle.std.proofs.Common.{◌≡◌, ℕ, zero, suc, ◌+◌, ◌-◌, ◌*◌, ◌/◌, ◌%◌, ◌^◌, ◌<◌, ◌≤◌, Bool, T, eqb, ltb, sym, refl, ap, ◌∙◌, subst, one-mul, zero-mul, div-one, arith, eqb→eq, ltb→lt}
 use lib.Bits.{bit_xor, xor_shr, xor_self, xor_lt, xor_zero_r}
 use Rattle.std.proofs.lemmas.Nat.{shr-shr, mod_below, pow_pos}
 use native.Mathlib.Nat.{sub-zero}
-use Rattle.field.specs.Binary.{carryless, remainder, moduli, modulus_of, times, doubled}
+use Rattle.field.specs.Binary.{carryless, remainder, modulus_of, times, doubled}
 use Rattle.field.specs.Additive.{Additive, agree, bounded}
 use Rattle.field.specs.Degrees.{degrees, degree_listed}
 use Rattle.field.specs.Polynomials.{xor_swap, bit_times, times_bit, double_xor, half_xor, times_left, times_right}
-use Rattle.field.specs.Tests.{below, below_at, each, each_at, member}
+use Rattle.field.specs.Tests.{below, below_at, each, each_at}
 
 -- the product by Horner's rule over the k bits of b, the highest first
 unfoldable pub horner : ℕ → ℕ → ℕ → ℕ → ℕ

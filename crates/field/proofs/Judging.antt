@@ -1,6 +1,6 @@
 -- What the makers of fields answer is what their conditions ask for.
-use Rattle.std.proofs.Common.{◌≡◌, ℕ, ◌<◌, ◌≤◌, Some, None, Option, refl, inl, inr, arith}
-use Rattle.fault.specs.First.{First, Judged, Before}
+use Rattle.std.proofs.Common.{◌≡◌, ℕ, ◌≤◌, Some, None, refl, inl, inr, arith}
+use Rattle.fault.specs.First.{Judged, Before}
 use Rattle.fault.proofs.Unique.{judged}
 use Rattle.field.specs.declared.refusal.FieldFault.{FieldFault}
 use Rattle.field.specs.declared.refusal.FieldFault.TheVariants.{Degree, Characteristic}

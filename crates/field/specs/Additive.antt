@@ -1,9 +1,8 @@
 -- Functions that take the exclusive or to the exclusive or are known by their values at the powers of 2.
-use Rattle.std.specs.Prelude.{◌≡◌, ℕ, zero, suc, ◌+◌, ◌*◌, ◌/◌, ◌%◌, ◌^◌, ◌<◌, ◌≤◌, ◌⊎◌, bit_xor, refl}
+use Rattle.std.specs.Prelude.{◌≡◌, ℕ, zero, suc, ◌*◌, ◌/◌, ◌%◌, ◌^◌, ◌<◌, ◌⊎◌, bit_xor, refl}
 use Rattle.std.proofs.Common.{sym, ap, ◌∙◌, subst, inl, inr, zero-mul, one-mul, pow-suc, arith, pow_pos}
-use Rattle.std.proofs.Math.Decide.{dec_lt}
-use Rattle.std.specs.Int.Bits.{xor_zero_l, xor_zero_r, xor_assoc, xor_self, xor_shifted, differ}
-use Rattle.std.proofs.lemmas.Nat.{shr_split, div_below, mod_below, xor_comm, xor_lt, xor_shr, xor_mod}
+use Rattle.std.specs.Int.Bits.{xor_self, xor_shifted}
+use Rattle.std.proofs.lemmas.Nat.{shr_split, div_below, mod_below, xor_lt}
 
 abbrev pub Additive : (ℕ → ℕ) → Type 0
 Additive f = (a b : ℕ) → f (bit_xor a b) ≡ bit_xor (f a) (f b)

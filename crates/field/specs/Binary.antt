@@ -1,5 +1,5 @@
 -- Polynomials over two elements, their bits the coefficients, lowest first, modulo a polynomial of degree m.
-use Rattle.std.specs.Prelude.{◌≡◌, ℕ, zero, suc, ◌+◌, ◌-◌, ◌*◌, ◌/◌, ◌%◌, ◌^◌, ◌<◌, Bool, cond, List, [], ◌∷◌, ◌≢◌, bit_xor, slice_index}
+use Rattle.std.specs.Prelude.{ℕ, zero, suc, ◌+◌, ◌-◌, ◌*◌, ◌/◌, ◌%◌, ◌^◌, ◌<◌, Bool, cond, List, [], ◌∷◌, ◌≢◌, bit_xor, slice_index}
 use Rattle.field.specs.Meaning.{Meaning}
 use Rattle.field.specs.Powers.{power}
 

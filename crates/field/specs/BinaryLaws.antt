@@ -1,8 +1,7 @@
 -- Products modulo the moduli of the table keep the laws of a field.
 use Rattle.std.specs.Prelude.{◌≡◌, ℕ, ◌-◌, ◌^◌, ◌<◌, ◌≤◌, Bool, ◌≢◌, refl}
-use Rattle.std.proofs.Common.{sym, ap, ◌∙◌, subst, arith, pow_pos}
+use Rattle.std.proofs.Common.{sym, ap, ◌∙◌, arith}
 use Rattle.std.proofs.Math.Decide.{ℕ_discrete}
-use Rattle.std.specs.Int.Bits.{bit_xor, xor_zero_l}
 use Rattle.std.proofs.Math.Nat.{pow-le-pow_right}
 use Rattle.field.specs.Binary.{binary, times, carryless, remainder, modulus_of}
 use Rattle.field.specs.Powers.{power}

@@ -1,9 +1,8 @@
 -- Tests over the seven degrees, computed once: what the moduli of the table are good for.
-use Rattle.std.specs.Prelude.{◌≡◌, ℕ, ◌-◌, ◌^◌, ◌<◌, ◌≤◌, Bool, true, false, T, ◌⊎◌, List, [], ◌∷◌, ◌==◌, ◌≢◌, nat_lt, refl}
-use Rattle.std.proofs.Common.{sym, ap, ◌∙◌, subst, inl, inr, arith}
-use Rattle.std.specs.Int.Bits.{bit_xor}
+use Rattle.std.specs.Prelude.{◌≡◌, ℕ, ◌-◌, ◌^◌, ◌<◌, ◌≤◌, Bool, T, ◌⊎◌, List, [], ◌∷◌, ◌==◌, ◌≢◌, nat_lt}
+use Rattle.std.proofs.Common.{inl, inr, arith}
 use Rattle.std.proofs.Math.Dec.{eqb→eq, ltb→lt}
-use Rattle.field.specs.Binary.{carryless, remainder, moduli, modulus_of, times}
+use Rattle.field.specs.Binary.{carryless, remainder, modulus_of, times}
 use Rattle.field.specs.Powers.{power}
 use Rattle.field.specs.Tests.{both, both_left, both_right, either, either_cases, below, below_at, each, each_at, member}
 

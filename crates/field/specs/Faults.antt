@@ -1,5 +1,5 @@
 -- The refusals of the makers of fields.
-use Rattle.std.specs.Prelude.{◌≡◌, ℕ, ◌<◌, ◌≤◌, ◌⊎◌}
+use Rattle.std.specs.Prelude.{ℕ, ◌≤◌}
 use Rattle.fault.specs.declared.Layer.TheVariants.{Field}
 use Rattle.fault.specs.declared.Refusal.{Refusal}
 use Rattle.field.specs.declared.refusal.FieldFault.{FieldFault}

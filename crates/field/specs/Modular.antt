@@ -1,5 +1,5 @@
 -- Arithmetic modulo a prime.
-use Rattle.std.specs.Prelude.{◌≡◌, ℕ, ◌+◌, ◌-◌, ◌*◌, ◌%◌, ◌<◌, ◌≤◌, ◌≢◌}
+use Rattle.std.specs.Prelude.{ℕ, ◌+◌, ◌-◌, ◌*◌, ◌%◌, ◌<◌, ◌≤◌, ◌≢◌}
 use Rattle.field.specs.Meaning.{Meaning}
 use Rattle.field.specs.Powers.{power}
 

@@ -1,8 +1,7 @@
 -- Sums and products modulo m keep the laws of a ring.
-use Rattle.std.specs.Prelude.{◌≡◌, ℕ, ◌+◌, ◌-◌, ◌*◌, ◌/◌, ◌%◌, ◌<◌, ◌≤◌, refl}
-use Rattle.std.proofs.Common.{sym, ap, ◌∙◌, add_comm, add_assoc, mul_comm, mul_assoc, mul-add, add-mul, one-mul, add-zero, mod-lt, mod-eq_of_lt, arith}
-use Rattle.std.proofs.Math.Nat.{mod-add-mod, add-mod-mod, mod_self, add-mul-mod_self_right, mod-add-div', add-mod_right}
-use Rattle.std.proofs.Math.Decide.{ℕ_discrete}
+use Rattle.std.specs.Prelude.{◌≡◌, ℕ, ◌+◌, ◌-◌, ◌*◌, ◌/◌, ◌%◌, ◌<◌}
+use Rattle.std.proofs.Common.{sym, ap, ◌∙◌, add_comm, add_assoc, mul_comm, mul_assoc, mul-add, add-mul, one-mul, add-zero, mod-eq_of_lt, arith}
+use Rattle.std.proofs.Math.Nat.{mod-add-mod, add-mod-mod, mod_self, add-mul-mod_self_right, mod-add-div'}
 
 pub mod_mul_mod : (a b m : ℕ) → (a % m) * b % m ≡ a * b % m
 mod_mul_mod a b m =

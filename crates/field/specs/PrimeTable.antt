@@ -1,6 +1,6 @@
 -- The table of primes holds the primes of 3 to 251 and no other number, and every element but 0 has its inverse.
-use Rattle.std.specs.Prelude.{◌≡◌, ℕ, ◌+◌, ◌-◌, ◌*◌, ◌%◌, ◌<◌, ◌≤◌, Bool, true, false, not, T, ◌⊎◌, List, [], ◌∷◌, length, ◌==◌, ◌≢◌, nat_le, nat_lt, slice_index, refl}
-use Rattle.std.proofs.Common.{sym, ap, ◌∙◌, subst, inl, inr, arith, eqb→eq, ltb→lt, leb→le}
+use Rattle.std.specs.Prelude.{◌≡◌, ℕ, ◌-◌, ◌*◌, ◌%◌, ◌<◌, ◌≤◌, Bool, not, T, ◌⊎◌, List, [], ◌∷◌, ◌==◌, ◌≢◌, nat_le, nat_lt, slice_index}
+use Rattle.std.proofs.Common.{subst, inl, inr, arith, eqb→eq, ltb→lt, leb→le}
 use Rattle.field.specs.Modular.{Prime, times}
 use Rattle.field.specs.Powers.{power}
 use Rattle.field.specs.Tests.{both, both_left, both_right, either, either_cases, below, below_at, some_below, some_below_at, each, each_at, member, member_at, member_place, not_equal}

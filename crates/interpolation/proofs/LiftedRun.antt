@@ -2,7 +2,6 @@
 use Rattle.std.proofs.Common.{◌≡◌, ℕ, zero, suc, ◌+◌, ◌-◌, ◌*◌, ◌^◌, ◌<◌, ◌≤◌, min, ◌⊎◌, List, [], ◌∷◌, ◌++◌, length, get_or, take, sym, ap, ◌∙◌, subst, subst₂, inl, inr, mul-add, arith}
 use Rattle.algebra.specs.Operations.{Operations, Lawful}
 use Rattle.algebra.specs.Elements.{Elem, element_ring, elements, into}
-use Rattle.algebra.specs.Places as points
 use Rattle.algebra.specs.Conditions.{Condition, condition, conditions_of, stage}
 use Rattle.algebra.specs.Koetter.{Start, Step}
 use Rattle.algebra.proofs.KoetterStages.{stage_first, stage_turn, stage_last, stage_keeps, stage_keeps_least}

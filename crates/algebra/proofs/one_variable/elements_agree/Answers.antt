@@ -1,6 +1,5 @@
 -- The theorem over any field, at the elements.
-use mathlib.Core.Path.{◌≡◌, sym, ap, ap₂, ◌∙◌, subst}
-use Prim.Native.Nat.{ℕ}
+use mathlib.Core.Path.{sym, ap, ap₂, ◌∙◌}
 use Rattle.algebra.specs.Elements.{into}
 use Rattle.algebra.proofs.Elements.{number_add, number_neg, number_mul, number_inv, number_into}
 use Rattle.algebra.proofs.one_variable.elements_agree.Goals as goal

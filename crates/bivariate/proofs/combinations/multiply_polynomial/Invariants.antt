@@ -1,4 +1,4 @@
-use Rattle.std.proofs.Common.{[], get_or}
+use Rattle.std.proofs.Common.{[]}
 use Rattle.bivariate.specs.Combinations.{row_length, times_of}
 use Rattle.bivariate.proofs.Upto.{Upto}
 use Rattle.bivariate.proofs.Writing.{changing}

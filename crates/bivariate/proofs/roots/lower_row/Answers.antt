@@ -1,4 +1,4 @@
-use Rattle.std.proofs.Common.{◌<◌, ◌≤◌, length, arith}
+use Rattle.std.proofs.Common.{◌<◌, length, arith}
 use Rattle.bivariate.proofs.Upto.{upto_none}
 use Rattle.bivariate.proofs.Searching.{lower_more, lower_all}
 use Rattle.bivariate.proofs.roots.lower_row.Goals as goal

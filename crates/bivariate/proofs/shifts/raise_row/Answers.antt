@@ -1,4 +1,4 @@
-use Rattle.std.proofs.Common.{◌<◌, ◌≤◌, length, arith}
+use Rattle.std.proofs.Common.{◌<◌, length, arith}
 use Rattle.bivariate.proofs.Upto.{upto_none, upto_write}
 use Rattle.bivariate.proofs.Searching.{raise_at, raise_all}
 use Rattle.bivariate.proofs.shifts.raise_row.Goals as goal

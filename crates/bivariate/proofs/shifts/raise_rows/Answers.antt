@@ -1,4 +1,4 @@
-use Rattle.std.proofs.Common.{◌<◌, ◌≤◌, length, arith}
+use Rattle.std.proofs.Common.{◌<◌, length, arith}
 use Rattle.bivariate.specs.Roots.{raise_row, raise_of}
 use Rattle.bivariate.proofs.Upto.{upto_none}
 use Rattle.bivariate.proofs.Writing.{changed_more, changed_all}

@@ -1,4 +1,4 @@
-use Rattle.std.proofs.Common.{◌≤◌, min, sym, ◌∙◌, subst, arith}
+use Rattle.std.proofs.Common.{◌≤◌, min, arith}
 use Rattle.bivariate.proofs.Steps.{value_none, value_more, value_all}
 use Rattle.bivariate.proofs.values.value.Goals as goal
 

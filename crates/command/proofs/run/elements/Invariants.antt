@@ -1,4 +1,4 @@
-use Rattle.std.proofs.Common.{◌≡◌, ℕ, ◌+◌, ◌<◌, [], length, get_or, vec_items, vec_len}
+use Rattle.std.proofs.Common.{◌≡◌, ℕ, ◌<◌, [], get_or, vec_items, vec_len}
 use Rattle.command.specs.Lines.{texts}
 use Rattle.command.specs.Runs.{Writes}
 use Rattle.command.proofs.run.elements.Given as goal

@@ -1,7 +1,4 @@
-use Rattle.std.proofs.Common.{◌≡◌, Bool, Decides, sym, subst}
 use Rattle.std.proofs.lemmas.Bool.Decides.{Decides-and}
-use Rattle.command.specs.Lines.{texts, Spells}
-use Rattle.command.specs.declared.words.Verb.{Verb}
 use Rattle.command.proofs.WordTests.{decides_count, decides_three, decides_four, decides_at_verb}
 use Rattle.command.proofs.words.spells.Goals as goal
 

@@ -1,4 +1,4 @@
-use Rattle.std.proofs.Common.{refl, ⊎_elim, arith}
+use Rattle.std.proofs.Common.{refl, arith}
 use Rattle.field.proofs.Judging.{binary_made, binary_refused}
 use Rattle.field.proofs.binary.methods.degree_of.Goals as goal
 
