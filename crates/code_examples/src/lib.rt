@@ -99,7 +99,7 @@ mod tests {
         let answer = list(&plan, &field, &[0, 0, 0, 1, 2], &mut words, &mut workspace);
         assert_eq!(rt; listed(answer), Ok(2));
         assert_eq!(rt; words, [0, 0, 0, 0, 0, 3, 4, 0, 1, 2, 9, 9]);
-        assert_eq!(rt; pick(&words, 5, 1), Ok(&[3, 4, 0, 1, 2]));
+        assert_eq!(rt; pick(&words, 5, 1), Ok([3, 4, 0, 1, 2].as_slice()));
         let mut words = [9u16; 12];
         let answer = list(&plan, &field, &[0, 1, 4, 4, 1], &mut words, &mut workspace);
         assert_eq!(rt; listed(answer), Ok(0));
@@ -129,9 +129,9 @@ mod tests {
         let heard = [1, 1, 1, 1, 0, 0, 5];
         let answer = list(&plan, &field, &heard, &mut words, &mut workspace);
         assert_eq!(rt; listed(answer), Ok(2));
-        assert_eq!(rt; &words[0..7], &[1, 1, 1, 1, 1, 1, 1]);
-        assert_eq!(rt; &words[7..14], &[1, 2, 1, 5, 0, 0, 5]);
-        assert_eq!(rt; &words[14..49], &[9; 35]);
+        assert_eq!(rt; &words[0..7], [1, 1, 1, 1, 1, 1, 1].as_slice());
+        assert_eq!(rt; &words[7..14], [1, 2, 1, 5, 0, 0, 5].as_slice());
+        assert_eq!(rt; &words[14..49], [9; 35].as_slice());
         Ok(())
     }
 
