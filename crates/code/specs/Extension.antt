@@ -29,4 +29,4 @@ pub record Extends (p : Plan) (m : Meaning) (content xs : List ℕ) : Type 0 whe
 
 -- the faults that are found last: what the content is extended to is no word, or the room is less than n
 abbrev pub last_fault : Bool → ℕ → ℕ → Option CodeFault
-last_fault isWord room n = cond isWord (cond (nat_lt room n) (Some Room) None) (Some Content)
+last_fault is_word room n = cond is_word (cond (nat_lt room n) (Some Room) None) (Some Content)

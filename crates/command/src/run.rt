@@ -6,7 +6,7 @@ ghost use Rattle.console.specs.States.{Chosen, Checked, WrittenOut, ListedOut, O
 ghost use Rattle.console.specs.declared.answer.Answer.TheVariants.{Sum, Negative, Product};
 ghost use Rattle.console.specs.declared.answer.Trouble.TheVariants.{Number};
 ghost use Rattle.command.specs.declared.words.Verb.TheVariants.{Plan};
-ghost use Rattle.field.specs.Binary.{binary as binaryMeaning};
+ghost use Rattle.field.specs.Binary.{binary as binary_meaning};
 ghost use Rattle.field.specs.Faults.{PrimeFails, BinaryFails};
 ghost use Rattle.field.specs.Meaning.{sum_of, negative_of, product_of, inverse_of};
 ghost use Rattle.field.specs.Modular.{modular};
@@ -24,7 +24,7 @@ fn run_prime(console: &mut Console, p: &str) -> Result<Answer, Trouble>
 }
 
 fn run_binary(console: &mut Console, m: &str, all: bool) -> Result<Answer, Trouble>
-    ensures { Given 64 m.now (λ n. Answered result (λ a. Chosen (BinaryFails n) (binaryMeaning n all) console.old a console.new)) (Failed console.old result console.new) }
+    ensures { Given 64 m.now (λ n. Answered result (λ a. Chosen (BinaryFails n) (binary_meaning n all) console.old a console.new)) (Failed console.old result console.new) }
 {
     let m = number(m)?;
     Ok(console.choose_binary(m, all))

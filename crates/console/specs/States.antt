@@ -11,12 +11,12 @@ use Rattle.field.specs.Meaning.{Meaning, operations}
 use Rattle.field.specs.Modular.{modular}
 use Rattle.plan.specs.declared.asked.Parameters.{Parameters}
 use Rattle.plan.specs.declared.asked.PlanFault.{PlanFault}
-use Rattle.plan.specs.Faults as planFaults
+use Rattle.plan.specs.Faults as plan_faults
 use Rattle.plan.specs.Plans.{Asked}
 use Rattle.plan.specs.declared.Plan.{Plan}
 use Rattle.code.specs.declared.refusal.CodeFault.{CodeFault}
 use Rattle.code.specs.Codes.{InCode, WordOf}
-use Rattle.code.specs.Faults as codeFaults
+use Rattle.code.specs.Faults as code_faults
 use Rattle.code.specs.Listing.{Nearby, Interpolates, Tested}
 use Rattle.console.specs.Spaced.{words_of}
 use Rattle.console.specs.declared.word.Word.{Word}
@@ -61,29 +61,29 @@ Chosen Fails m before r after = (o : Option FieldFault) × Judged refusal_of Fai
 -- outcome of a plan: made as asked, or refused with everything as it was; the field stays
 abbrev pub PlannedBy : Option PlanFault → Parameters → List ℕ → List ℕ → Console → Answer → Console → Type 0
 PlannedBy None asked α β before r after = (r ≡ PlanMade) × Asked asked α β after.plan × (after.field ≡ before.field)
-PlannedBy (Some f) asked α β before r after = (r ≡ Refused (planFaults.refusal_of f)) × (after ≡ before)
+PlannedBy (Some f) asked α β before r after = (r ≡ Refused (plan_faults.refusal_of f)) × (after ≡ before)
 
 -- the plan asked for is made, unless a fault holds, the first of which is answered
 abbrev pub Planned : Parameters → List ℕ → List ℕ → Console → Answer → Console → Type 0
-Planned asked α β before r after = (o : Option PlanFault) × Judged planFaults.refusal_of (planFaults.Fails asked α β) o × PlannedBy o asked α β before r after
+Planned asked α β before r after = (o : Option PlanFault) × Judged plan_faults.refusal_of (plan_faults.Fails asked α β) o × PlannedBy o asked α β before r after
 
 -- outcome of a check: whether the word is in the code, or a refusal
 abbrev pub CheckedBy : Option CodeFault → Plan → Meaning → List ℕ → Answer → Type 0
 CheckedBy None p m word r = (b : Bool) × Decides b (InCode p m word) × (r ≡ Check b)
-CheckedBy (Some f) p m word r = r ≡ Refused (codeFaults.refusal_of f)
+CheckedBy (Some f) p m word r = r ≡ Refused (code_faults.refusal_of f)
 
 -- whether the word is in the code is answered, unless a fault holds, the first of which is answered
 abbrev pub Checked : Plan → Meaning → List ℕ → Answer → Type 0
-Checked p m word r = (o : Option CodeFault) × Judged codeFaults.refusal_of (codeFaults.CheckFails p m word) o × CheckedBy o p m word r
+Checked p m word r = (o : Option CodeFault) × Judged code_faults.refusal_of (code_faults.CheckFails p m word) o × CheckedBy o p m word r
 
 -- outcome of a writing: the one word that begins with the content, or a refusal
 abbrev pub WrittenBy : Option CodeFault → Plan → Meaning → List ℕ → Answer → Type 0
 WrittenBy None p m content r = (w : Word) × WordOf p m content (take w.n w.letters) × (r ≡ Write w)
-WrittenBy (Some f) p m content r = r ≡ Refused (codeFaults.refusal_of f)
+WrittenBy (Some f) p m content r = r ≡ Refused (code_faults.refusal_of f)
 
 -- the word that begins with the content is answered, unless a fault holds, the first of which is answered; there is room for any word
 abbrev pub WrittenOut : Plan → Meaning → List ℕ → Answer → Type 0
-WrittenOut p m content r = (o : Option CodeFault) × Judged codeFaults.refusal_of (codeFaults.WriteFails p m content 64) o × WrittenBy o p m content r
+WrittenOut p m content r = (o : Option CodeFault) × Judged code_faults.refusal_of (code_faults.WriteFails p m content 64) o × WrittenBy o p m content r
 
 -- so many candidates were tested: the roots of an interpolation polynomial Q of the word heard, which is left open
 pub record Candidates (p : Plan) (m : Meaning) (heard : List ℕ) (tested : ℕ) : Type 0 where
@@ -95,11 +95,11 @@ pub record Candidates (p : Plan) (m : Meaning) (heard : List ℕ) (tested : ℕ)
 -- outcome of a listing: all words of the code within the plan's errors of the word heard, in rising order, and the number tested, or a refusal
 abbrev pub ListedBy : Option CodeFault → Plan → Meaning → List ℕ → Answer → Type 0
 ListedBy None p m heard r = (ws : Words) × Nearby p m heard (words_of ws.n ws.count ws.list) × Candidates p m heard ws.tested × (r ≡ ListAnswer ws)
-ListedBy (Some f) p m heard r = r ≡ Refused (codeFaults.refusal_of f)
+ListedBy (Some f) p m heard r = r ≡ Refused (code_faults.refusal_of f)
 
 -- the words near the word heard are answered, unless a fault holds, the first of which is answered; there is room for any list and to work in
 abbrev pub ListedOut : Plan → Meaning → List ℕ → Answer → Type 0
-ListedOut p m heard r = (o : Option CodeFault) × Judged codeFaults.refusal_of (codeFaults.ListFails p m heard 448 32768) o × ListedBy o p m heard r
+ListedOut p m heard r = (o : Option CodeFault) × Judged code_faults.refusal_of (code_faults.ListFails p m heard 448 32768) o × ListedBy o p m heard r
 
 -- an answer of which P holds over the field chosen, or an error where none is
 abbrev pub OverField : Choice → (Meaning → Answer → Type 0) → Result Answer Trouble → Type 0

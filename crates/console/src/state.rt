@@ -3,7 +3,7 @@ ghost use Rattle.std.specs.Prelude.{◌≡◌};
 ghost use Rattle.console.specs.States.{meaning_of, Chosen, Planned, Checked, WrittenOut, ListedOut, OverField, with_field, plain, inverted};
 ghost use Rattle.console.specs.declared.answer.Answer.TheVariants.{Sum, Negative, Product};
 ghost use Rattle.console.specs.declared.state.Choice.TheVariants.{Nothing};
-ghost use Rattle.field.specs.Binary.{binary as binaryMeaning};
+ghost use Rattle.field.specs.Binary.{binary as binary_meaning};
 ghost use Rattle.field.specs.Faults.{PrimeFails, BinaryFails};
 ghost use Rattle.field.specs.Meaning.{sum_of, negative_of, product_of, inverse_of};
 ghost use Rattle.field.specs.Modular.{modular};
@@ -102,7 +102,7 @@ impl Console {
 
     // Chooses the field of degree m, with all its elements or two of them as letters.
     pub fn choose_binary(&mut self, m: usize, all: bool) -> Answer
-        ensures { Chosen (BinaryFails m) (binaryMeaning m all) self.old result self.new }
+        ensures { Chosen (BinaryFails m) (binary_meaning m all) self.old result self.new }
     {
         match BinaryField::new(m, all) {
             Ok(field) => {

@@ -2,7 +2,7 @@
 ghost use Rattle.std.specs.Prelude.{◌≡◌, ℕ, ◌^◌, ◌<◌, ◌≤◌, Bool, true, false, ◌&&◌, IfOk, if◌then◌else◌, Some, None, MatchOption};
 ghost use Rattle.std.specs.Result.{result_err};
 ghost use Rattle.fault.specs.First.{Judged};
-ghost use Rattle.field.specs.Binary.{binary, doubled, modulus_of, Irreducible, times as timesModulo};
+ghost use Rattle.field.specs.Binary.{binary, doubled, modulus_of, Irreducible, times as times_modulo};
 ghost use Rattle.field.specs.Faults.{refusal_of, BinaryFails};
 ghost use Rattle.field.specs.declared.refusal.FieldFault.TheVariants.{Degree};
 ghost use Rattle.field.specs.Meaning.{product_of};
@@ -44,7 +44,7 @@ fn multiply(degree: u16, modulus: u16, a: u16, b: u16) -> u16
     requires range { (2 ≤ degree) × (degree ≤ 8) }
     requires listed { modulus ≡ modulus_of degree }
     requires elements { (a < 2 ^ degree) × (b < 2 ^ degree) }
-    ensures { result ≡ timesModulo degree a b }
+    ensures { result ≡ times_modulo degree a b }
 {
     let mut product = 0u16;
     for i in (0..degree).rev() {

@@ -4,7 +4,7 @@ ghost use Rattle.std.specs.Result.{result_err};
 ghost use Rattle.fault.specs.First.{Judged};
 ghost use Rattle.field.specs.Faults.{refusal_of, PrimeFails};
 ghost use Rattle.field.specs.declared.refusal.FieldFault.TheVariants.{Characteristic};
-ghost use Rattle.field.specs.Modular.{Prime, modular, times as timesModulo};
+ghost use Rattle.field.specs.Modular.{Prime, modular, times as times_modulo};
 ghost use Rattle.std.proofs.Common.{mod-lt, arith, rules};
 ghost use Rattle.field.specs.Modular;
 ghost use Rattle.field.specs.PowersLemmas.{power_closed};
@@ -64,7 +64,7 @@ impl PrimeField {
 }
 
 impl Product for PrimeField {
-    ghost times = { λ f. timesModulo f.p };
+    ghost times = { λ f. times_modulo f.p };
 
     fn times(&self, a: u16, b: u16) -> u16 {
         (u32::from(a) * u32::from(b) % u32::from(self.characteristic())) as u16
