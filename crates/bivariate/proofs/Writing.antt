@@ -2,7 +2,7 @@
 use Rattle.std.proofs.Common.{◌≡◌, ℕ, suc, ◌+◌, ◌-◌, ◌*◌, ◌^◌, ◌<◌, ◌≤◌, min, cond, ltb, List, [], length, get_or, set, sym, ap, ◌∙◌, ap₂, arith}
 use Rattle.field.specs.Meaning.{Meaning, sum_of, negative_of, product_of}
 use Rattle.bivariate.specs.Horner.{before}
-use Rattle.bivariate.specs.Combinations.{row_length, plus_of, times_of, changed}
+use Rattle.bivariate.specs.Combinations.{row_length, plus_of, minus_of, times_of, changed}
 use Rattle.bivariate.proofs.Steps.{before_suc}
 use Rattle.bivariate.proofs.Upto.{Upto, upto_here, upto_write, upto_all, pick_below, pick_above}
 
@@ -164,3 +164,9 @@ module _ (l : ℕ) (f : ℕ → List ℕ → List ℕ) (was : List (List ℕ)) w
       e
       u
       (λ j a b. sym (pick_above j l (f j (get_or was j [])) (get_or was j []) (omega arith)))
+
+pub minus_is : (m : Meaning) (k len negative : ℕ) (was source xs : List ℕ)
+    → negative ≡ negative_of m k
+    → xs ≡ plus_of m negative len was source
+    → xs ≡ minus_of m k len was source
+minus_is m k len negative was source xs e p = p ∙ ap (λ n. plus_of m n len was source) e
