@@ -72,6 +72,7 @@ module _ (m : Meaning) (k len : ℕ) (target source : List ℕ) where
   plus_above i h e = plus_keeps i h (λ _. e) ∙ e
 
   pub minus_as_plus : minus_of m k len target source ≡ plus_of m (negative_of m k) len target source
+  unfolding minus_of
   minus_as_plus = refl
 
 module _ (m : Meaning) (a len : ℕ) (row : List ℕ) where

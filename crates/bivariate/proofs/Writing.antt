@@ -169,4 +169,5 @@ pub minus_is : (m : Meaning) (k len negative : ℕ) (was source xs : List ℕ)
     → negative ≡ negative_of m k
     → xs ≡ plus_of m negative len was source
     → xs ≡ minus_of m k len was source
+unfolding minus_of
 minus_is m k len negative was source xs e p = p ∙ ap (λ n. plus_of m n len was source) e

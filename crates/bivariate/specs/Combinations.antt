@@ -22,7 +22,7 @@ plus_of m k len target source =
     made 256 (λ i. cond (nat_lt i len) (sum_of m (slice_index target i) (product_of m k (slice_index source i))) (slice_index target i))
 
 -- target − k·source in the first len coefficients
-abbrev pub minus_of : Meaning → ℕ → ℕ → List ℕ → List ℕ → List ℕ
+unfoldable pub minus_of : Meaning → ℕ → ℕ → List ℕ → List ℕ → List ℕ
 minus_of m k len target source = plus_of m (negative_of m k) len target source
 
 -- (x − a)·row in the first len coefficients

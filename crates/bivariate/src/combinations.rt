@@ -29,6 +29,7 @@ pub(crate) fn add_multiple<F: Field>(
 }
 
 // Subtracts the multiple of the source by the factor from the target, in the first len coefficients.
+#[tactic(auto, unfolding(crate::specs::Combinations::minus_of))]
 pub fn subtract_multiple<F: Field>(
     field: &F,
     target: &mut [u16; 256],

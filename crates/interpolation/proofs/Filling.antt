@@ -1,5 +1,5 @@
 -- The loops that fill a list from its start on, and the choices that they write.
-use Rattle.std.proofs.Common.{◌≡◌, ℕ, ◌+◌, ◌<◌, ◌≤◌, min, cond, eqb, ltb, ◌≢◌, List, [], length, get_or, set, replicate, sym, ap, ◌∙◌, arith}
+use Rattle.std.proofs.Common.{◌≡◌, ℕ, ◌+◌, ◌<◌, ◌≤◌, min, cond, eqb, ltb, List, [], length, get_or, set, replicate, sym, ap, ◌∙◌, arith}
 use lib.ListN.{length-replicate, get_or-replicate}
 use Rattle.std.proofs.lemmas.Bool.{cond-true, cond-false, eq-eqb, ne_eqb}
 use Rattle.field.specs.Meaning.{Meaning, product_of}
@@ -96,13 +96,15 @@ module _ (m : Meaning) (source : List (List ℕ)) (factor l bound weight : ℕ) 
 module _ (m : Meaning) (source : List (List ℕ)) (factor l bound weight d : ℕ) (q : List (List ℕ)) where
   -- a row with the discrepancy 0 stays as it is
   pub cleared_none : d ≡ 0 → q ≡ cleared_row_of m source factor l bound weight d q
+  unfolding cleared_row_of
   cleared_none e = sym (cond-true (eqb d 0) q (minus_polynomial_of m (product_of m d factor) l bound weight q source) (eq-eqb d 0 e))
 
   pub cleared_some : (k : ℕ) (xs : List (List ℕ))
-      → d ≢ 0
+      → (d ≡ 0 → ⊥)
       → k ≡ product_of m d factor
       → xs ≡ minus_polynomial_of m k l bound weight q source
       → xs ≡ cleared_row_of m source factor l bound weight d q
+  unfolding cleared_row_of
   cleared_some k xs h e f =
       f
       ∙ ap (λ n. minus_polynomial_of m n l bound weight q source) e

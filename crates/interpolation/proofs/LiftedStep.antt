@@ -23,6 +23,7 @@ use Rattle.interpolation.proofs.Reducing.{past_length, past_spare, live_at, dead
 
 -- the inverse of an element that is not 0
 pub inverse_some : (m : Meaning) (n : ℕ) → n < m.size → (n ≡ 0 → ⊥) → inverse_or_zero m n ≡ m.inverse n
+unfolding inverse_or_zero
 inverse_some m n h k =
     ap
     (λ x. unwrap_or x 0)

@@ -34,7 +34,7 @@ module _ (m : Meaning) (rows : List (List (List ℕ))) (degrees : List ℕ) (l b
       → j < l
       → get_or degrees j 0 < bound
       → get_or ds j 0 ≡ discrepancy_of m (get_or rows j []) l bound weight a b u r
-  unfolding discrepancies_of
+  unfolding discrepancies_of live_discrepancy_of
   live_at j h k d =
       made_at (discrepancy_at m rows degrees l bound weight a b u r) 8 j 0 h
       ∙ pick_below j l (live_discrepancy_of m (get_or rows j []) (get_or degrees j 0) l bound weight a b u r) 0 k
@@ -42,7 +42,7 @@ module _ (m : Meaning) (rows : List (List (List ℕ))) (degrees : List ℕ) (l b
 
   -- other rows have the discrepancy 0
   pub dead_at : (j : ℕ) → j < 8 → ((j < l) → (get_or degrees j 0 < bound) → ⊥) → get_or ds j 0 ≡ 0
-  unfolding discrepancies_of
+  unfolding discrepancies_of live_discrepancy_of
   dead_at j h dead = made_at (discrepancy_at m rows degrees l bound weight a b u r) 8 j 0 h ∙ go (cases_lt j l) (cases_lt (get_or degrees j 0) bound)
     where
       go : (j < l) ⊎ (l ≤ j) → (get_or degrees j 0 < bound) ⊎ (bound ≤ get_or degrees j 0) → discrepancy_at m rows degrees l bound weight a b u r j ≡ 0
@@ -100,7 +100,7 @@ module _ (m : Meaning) (p : ℕ) (discrepancies degrees : List ℕ) (a l bound w
       (get_or-set_same discrepancies p 0 0 (omega arith)))
 
   raised : reduced ≡ cond (ltb degree bound) (set cleared p product) cleared
-  unfolding reduced_of
+  unfolding reduced_of raised_of
   raised = refl
 
   -- the other rows
@@ -141,6 +141,7 @@ module _ (m : Meaning) (p : ℕ) (discrepancies degrees : List ℕ) (a l bound w
 pub cleared_by : (m : Meaning) (source : List (List ℕ)) (factor l bound weight d : ℕ) (q : List (List ℕ))
     → (d ≡ 0 → ⊥)
     → cleared_row_of m source factor l bound weight d q ≡ minus_polynomial_of m (product_of m d factor) l bound weight q source
+unfolding cleared_row_of
 cleared_by m source factor l bound weight d q h =
     cond-false (eqb d 0) q (minus_polynomial_of m (product_of m d factor) l bound weight q source) (ne_eqb d 0 h)
 

@@ -14,7 +14,7 @@ unfoldable pub start_degrees : ℕ → List ℕ
 start_degrees weight = made 8 (λ j. min (weight * j) (2 ^ 64 - 1))
 
 -- the discrepancy of a row whose degree is below the bound, and 0 for other rows
-abbrev pub live_discrepancy_of : Meaning → List (List ℕ) → ℕ → ℕ → ℕ → ℕ → ℕ → ℕ → ℕ → ℕ → ℕ
+unfoldable pub live_discrepancy_of : Meaning → List (List ℕ) → ℕ → ℕ → ℕ → ℕ → ℕ → ℕ → ℕ → ℕ → ℕ
 live_discrepancy_of m q degree l bound weight a b u r =
     cond (nat_lt degree bound) (discrepancy_of m q l bound weight a b u r) 0
 
@@ -24,11 +24,11 @@ discrepancies_of m rows degrees l bound weight a b u r =
     made 8 (λ j. cond (nat_lt j l) (live_discrepancy_of m (slice_index_or rows j []) (slice_index degrees j) l bound weight a b u r) 0)
 
 -- the inverse of an element, and 0 where there is none
-abbrev pub inverse_or_zero : Meaning → ℕ → ℕ
+unfoldable pub inverse_or_zero : Meaning → ℕ → ℕ
 inverse_or_zero m a = unwrap_or (inverse_of m a) 0
 
 -- the row less the multiple of the source by the discrepancy times the factor, unless the discrepancy is 0
-abbrev pub cleared_row_of : Meaning → List (List ℕ) → ℕ → ℕ → ℕ → ℕ → ℕ → List (List ℕ) → List (List ℕ)
+unfoldable pub cleared_row_of : Meaning → List (List ℕ) → ℕ → ℕ → ℕ → ℕ → ℕ → List (List ℕ) → List (List ℕ)
 cleared_row_of m source factor l bound weight discrepancy q =
     cond (discrepancy == 0) q (minus_polynomial_of m (product_of m discrepancy factor) l bound weight q source)
 
@@ -38,7 +38,7 @@ cleared_of m source factor l bound weight discrepancies rows =
     made 8 (λ j. cleared_row_of m source factor l bound weight (slice_index discrepancies j) (slice_index_or rows j []))
 
 -- row p times x − a, where the degree of the product is below the bound
-abbrev pub raised_of : Meaning → ℕ → ℕ → ℕ → ℕ → ℕ → ℕ → List (List (List ℕ)) → List (List (List ℕ))
+unfoldable pub raised_of : Meaning → ℕ → ℕ → ℕ → ℕ → ℕ → ℕ → List (List (List ℕ)) → List (List (List ℕ))
 raised_of m p degree a l bound weight rows =
     cond (nat_lt degree bound) (slice_set rows p (times_polynomial_of m a l bound weight (slice_index_or rows p []))) rows
 

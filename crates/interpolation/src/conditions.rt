@@ -9,6 +9,7 @@ use bivariate::discrepancies::discrepancy;
 use field::Field;
 
 // The discrepancy of a row whose degree is below the bound, and 0 for other rows.
+#[tactic(auto, unfolding(crate::specs::Rows::live_discrepancy_of))]
 fn live_discrepancy<F: Field>(
     field: &F,
     q: &[[u16; 256]; 8],
@@ -53,6 +54,7 @@ pub fn discrepancies<F: Field>(
 }
 
 // The inverse of an element, and 0 where there is none.
+#[tactic(auto, unfolding(crate::specs::Rows::inverse_or_zero))]
 fn inverse_or_zero<F: Field>(field: &F, a: u16) -> u16
     ensures { result ≡ inverse_or_zero (F.meaning field.now) a }
 {
@@ -60,6 +62,7 @@ fn inverse_or_zero<F: Field>(field: &F, a: u16) -> u16
 }
 
 // Subtracts the multiple of the source by the discrepancy times the factor, unless the discrepancy is 0.
+#[tactic(auto, unfolding(crate::specs::Rows::cleared_row_of))]
 fn clear_row<F: Field>(
     field: &F,
     q: &mut [[u16; 256]; 8],
@@ -113,6 +116,7 @@ pub fn eliminate<F: Field>(
 }
 
 // Multiplies row p by x − a, where the degree of the product is below the bound.
+#[tactic(auto, unfolding(crate::specs::Rows::raised_of))]
 fn raise<F: Field>(
     field: &F,
     rows: &mut [[[u16; 256]; 8]; 8],
