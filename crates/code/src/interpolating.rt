@@ -1,6 +1,6 @@
 // The polynomial in x and y that vanishes at the letters heard: at each element of the support, over its multiplier.
 ghost use Rattle.std.specs.Prelude.{◌≡◌, ◌<◌, Bool, length, take};
-ghost use Rattle.interpolation.specs.Runs.{Interpolant, NoneBelow};
+ghost use Rattle.interpolation.specs.Runs.{Interpolant};
 ghost use Rattle.code.specs.Decoding.{place_at, places_of};
 ghost use Rattle.code.specs.Listing.{weight_of, width_of};
 
@@ -51,9 +51,7 @@ fn places<F: Field>(plan: &Plan, field: &F, heard: &[u16]) -> [Place; 64]
 // The interpolation polynomial of the word heard. The plan's inequality sees to it that there is one.
 pub(crate) fn interpolation<F: Field>(plan: &Plan, field: &F, heard: &[u16]) -> [[u16; 256]; 8]
     requires { length heard.now ≡ plan.now.n }
-    ensures { (b : Bool)
-        × Interpolant (F.meaning field.now) (places_of plan.now (F.meaning field.now) heard.now) plan.now.l (width_of plan.now) (weight_of plan.now) result b
-        × NoneBelow (F.meaning field.now) (places_of plan.now (F.meaning field.now) heard.now) plan.now.l (width_of plan.now) (weight_of plan.now) b }
+    ensures { (b : Bool) × Interpolant (F.meaning field.now) (places_of plan.now (F.meaning field.now) heard.now) plan.now.l (width_of plan.now) (weight_of plan.now) result b }
 {
     let n = plan.n();
     let places = places(plan, field, heard);
