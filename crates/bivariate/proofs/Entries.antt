@@ -2,13 +2,14 @@
 use Rattle.std.proofs.Common.{◌≡◌, ℕ, suc, ◌+◌, ◌-◌, ◌*◌, ◌<◌, ◌≤◌, min, ◌⊎◌, List, [], get_or, sym, refl, ap, ◌∙◌, inl, inr, add-mul, mul-add, arith}
 use Rattle.std.proofs.lemmas.Bool.{cases_lt}
 use Rattle.field.specs.Meaning.{Meaning, sum_of, negative_of, product_of}
-use Rattle.bivariate.specs.Horner.{before}
+use Rattle.bivariate.specs.Horner.{before, nested_of}
 use Rattle.bivariate.specs.Combinations.{row_length, plus_of, minus_of, times_of, changed}
 use Rattle.bivariate.specs.Lifted.{Room}
 use Rattle.bivariate.specs.Roots.{lower_row, lower_of, shift_step_of, raise_row, raise_of}
 use Rattle.bivariate.proofs.Searching.{lower_at, raise_at, shift_at}
 use Rattle.bivariate.proofs.Upto.{made_at, made_past, pick_below, pick_above}
-use Rattle.bivariate.proofs.Writing.{plus_at, times_at, changing}
+use Rattle.bivariate.proofs.Steps.{nested_at}
+use Rattle.bivariate.proofs.Writing.{plus_at, changing}
 
 pub row_length_256 : (bound weight c : ℕ) → row_length bound weight c ≤ 256
 unfolding row_length
@@ -77,21 +78,21 @@ module _ (m : Meaning) (k len : ℕ) (target source : List ℕ) where
 
 module _ (m : Meaning) (a len : ℕ) (row : List ℕ) where
   pub times_below : (i : ℕ) → i < len → i < 256 → get_or (times_of m a len row) i 0 ≡ sum_of m (before 0 row i) (product_of m (negative_of m a) (get_or row i 0))
-  unfolding times_of
+  unfolding times_of nested_of
   times_below i h l =
-      made_at (times_at m a len row) 256 i 0 l
+      made_at (nested_at m len (negative_of m a) 0 row) 256 i 0 l
       ∙ pick_below i len (sum_of m (before 0 row i) (product_of m (negative_of m a) (get_or row i 0))) (get_or row i 0) h
 
   pub times_above : (i : ℕ) → len ≤ i → get_or row i 0 ≡ 0 → get_or (times_of m a len row) i 0 ≡ 0
-  unfolding times_of
+  unfolding times_of nested_of
   times_above i h e = go (cases_lt i 256)
     where
       go : (i < 256) ⊎ (256 ≤ i) → get_or (times_of m a len row) i 0 ≡ 0
       go (inl l) =
-          made_at (times_at m a len row) 256 i 0 l
+          made_at (nested_at m len (negative_of m a) 0 row) 256 i 0 l
           ∙ pick_above i len (sum_of m (before 0 row i) (product_of m (negative_of m a) (get_or row i 0))) (get_or row i 0) h
           ∙ e
-      go (inr l) = made_past (times_at m a len row) 256 i 0 l
+      go (inr l) = made_past (nested_at m len (negative_of m a) 0 row) 256 i 0 l
 
 module _ (l : ℕ) (f : ℕ → List ℕ → List ℕ) (q : List (List ℕ)) where
   pub changed_below : (c : ℕ) → c < l → c < 8 → get_or (changed l f q) c [] ≡ f c (get_or q c [])

@@ -68,17 +68,7 @@ module _ (m : Meaning) (law : Lawful (operations m)) where
       ap (into (operations m) law) (cond-true (ltb a m.size) (m.negative a) 0 (lt-ltb a m.size h))
       ∙ into_negative (operations m) law a h
 
-  -- the step of Horner's rule
-  pub into_horner : (h a c : ℕ)
-      → h < m.size
-      → a < m.size
-      → c < m.size
-      → into (operations m) law (sum_of m (product_of m h a) c)
-      ≡ into (operations m) law h * into (operations m) law a + into (operations m) law c
-  into_horner h a c p q r =
-      into_sum_of (product_of m h a) c (product_element h a) r ∙ ap (λ x. x + into (operations m) law c) (into_product_of h a p q)
-
-  -- the step of a sum of a row and a multiple of another
+  -- the step of Horner's rule, and of a sum of a row and a multiple of another
   pub into_multiple : (t k s : ℕ)
       → t < m.size
       → k < m.size

@@ -1,22 +1,44 @@
 -- The steps of the loops that write a polynomial into a workspace.
-use Rattle.std.proofs.Common.{◌≡◌, ℕ, ◌+◌, ◌-◌, ◌*◌, ◌/◌, ◌%◌, ◌<◌, ◌≤◌, min, cond, ltb, ◌⊎◌, List, [], length, get_or, set, sym, refl, ap, ◌∙◌, subst, ap₂, inl, inr, add-mul, mul-le-mul, arith}
+use Rattle.std.proofs.Common.{◌≡◌, ℕ, ◌+◌, ◌-◌, ◌*◌, ◌/◌, ◌%◌, ◌<◌, ◌≤◌, min, cond, ltb, ◌⊎◌, List, [], ◌++◌, length, take, drop, replicate, get_or, sym, refl, ap, ◌∙◌, subst, ap₂, inl, inr, add-mul, mul-le-mul, arith}
 use lib.Arith.{digits_div, digits_mod}
-use Rattle.std.proofs.lemmas.List.{get_or_past}
+use lib.ListN.{length-replicate, get_or-replicate}
+use Rattle.std.proofs.lemmas.List.{get_or_past, get_or-take, get_or-drop, get_or_append_left, get_or-append_right, length-take, length-drop, length-append}
 use Rattle.std.proofs.lemmas.Bool.{cases_lt}
 use Rattle.bivariate.specs.Flat.{cleared_of, pasted_of, rows_of, flat_of}
-use Rattle.bivariate.proofs.Upto.{Upto, upto_from, upto_none, upto_write, upto_all, length_made, made_at, made_past, pick_below, pick_above}
+use Rattle.bivariate.proofs.Upto.{Upto, upto_none, upto_all, part_all, length_made, made_at, made_past, made_is, pick_below, pick_above}
 
 module _ (count : ℕ) (was : List ℕ) where
   abbrev pub clear_at : ℕ → ℕ
   clear_at p = cond (ltb p count) 0 (get_or was p 0)
 
-  pub clear_more : (i : ℕ) (xs : List ℕ) → i < count → i < length was → Upto 0 clear_at was i xs → Upto 0 clear_at was (i + 1) (set xs i 0)
-  clear_more i xs h k u = upto_write 0 clear_at was i xs 0 k u (sym (pick_below i count 0 (get_or was i 0) h))
-
-  pub clear_all : (i : ℕ) (xs : List ℕ) → count ≤ i → Upto 0 clear_at was i xs → xs ≡ cleared_of count was
+  -- the first numbers overwritten by zeros
+  pub cleared_is : (xs : List ℕ)
+      → count ≤ length was
+      → xs ≡ replicate {A = ℕ} (length (take count was)) 0
+      → xs ++ drop count was ≡ cleared_of count was
   unfolding cleared_of
-  clear_all i xs h u =
-      upto_all 0 clear_at was (length was) i xs refl u (λ k a b. sym (pick_above k count 0 (get_or was k 0) (omega arith)))
+  cleared_is xs h e =
+      part_all
+      0
+      clear_at
+      was
+      count
+      (length was)
+      count
+      xs
+      refl
+      h
+      (let f : length (take count was) ≡ min count (length was) = length-take count was in omega arith)
+      (record {
+        long = ap length e ∙ length-replicate {A = ℕ} (length (take count was)) 0;
+        done = λ k l n.
+            ap (λ ys. get_or ys k 0) e
+            ∙ get_or-replicate {A = ℕ} (length (take count was)) k 0 0 n
+            ∙ sym (pick_below k count 0 (get_or was k 0) l);
+        left = λ k l n.
+            let f : length (take count was) ≡ min count (length was) = length-take count was in absurd (omega arith);
+      })
+      (λ k l n. sym (pick_above k count 0 (get_or was k 0) l))
 
 module _ (start width : ℕ) (row was : List ℕ) where
   abbrev pub paste_at : ℕ → ℕ
@@ -32,35 +54,66 @@ module _ (start width : ℕ) (row was : List ℕ) where
   paste_above p h =
       pick_above p start (get_or was p 0) _ (omega arith) ∙ pick_above p (start + width) (get_or row (p - start) 0) (get_or was p 0) h
 
-  pub paste_none : Upto 0 paste_at was (start + 0) was
-  paste_none = upto_from 0 paste_at was (start + 0) (λ k h. sym (paste_below k (omega arith)))
-
-  pub paste_more : (i : ℕ) (xs : List ℕ)
-      → i < width
+  -- a part overwritten by the start of the row
+  pub pasted_is : (mid : ℕ) (part : List ℕ)
       → start + width ≤ length was
-      → Upto 0 paste_at was (start + i) xs
-      → Upto 0 paste_at was (start + (i + 1)) (set xs (start + i) (get_or row i 0))
-  paste_more i xs h k u =
-      let e : start + i + 1 ≡ start + (i + 1) = omega arith in
-      let d : start + i - start ≡ i = omega arith in
-      subst
-      (λ (n : ℕ). Upto 0 paste_at was n (set xs (start + i) (get_or row i 0)))
-      e
-      (upto_write
-      0
-      paste_at
-      was
-      (start + i)
-      xs
-      (get_or row i 0)
-      (omega arith)
-      u
-      (ap (λ n. get_or row n 0) (sym d) ∙ sym (paste_inside (start + i) (omega arith) (omega arith))))
-
-  pub paste_all : (i : ℕ) (xs : List ℕ) → width ≤ i → Upto 0 paste_at was (start + i) xs → xs ≡ pasted_of start width row was
+      → width ≤ length row
+      → mid ≡ width
+      → part ≡ take width row
+      → take start was ++ (part ++ drop mid (drop start was)) ≡ pasted_of start width row was
   unfolding pasted_of
-  paste_all i xs h u =
-      upto_all 0 paste_at was (length was) (start + i) xs refl u (λ k a b. sym (paste_above k (omega arith)))
+  pasted_is mid part fits narrow at is = made_is paste_at all (length was) 0 long (λ p h. go p h (cases_lt p start) (cases_lt p (start + width)))
+    where
+      rest : List ℕ
+      rest = drop mid (drop start was)
+
+      all : List ℕ
+      all = take start was ++ (part ++ rest)
+
+      first : length (take start was) ≡ start
+      first = let e : length (take start was) ≡ min start (length was) = length-take start was in omega arith
+
+      second : length part ≡ width
+      second =
+          let e : length (take width row) ≡ min width (length row) = length-take width row in
+          let f : length part ≡ length (take width row) = ap length is in
+          omega arith
+
+      third : length rest ≡ length was - start - width
+      third =
+          length-drop mid (drop start was) ∙ ap₂ (λ x y. x - y) (length-drop start was) at
+
+      long : length all ≡ length was
+      long =
+          let e : length all ≡ length (take start was) + length (part ++ rest) = length-append (take start was) (part ++ rest) in
+          let f : length (part ++ rest) ≡ length part + length rest = length-append part rest in
+          let a : length (take start was) ≡ start = first in
+          let b : length part ≡ width = second in
+          let c : length rest ≡ length was - start - width = third in
+          omega arith
+
+      after : (p : ℕ) → start ≤ p → get_or all p 0 ≡ get_or (part ++ rest) (p - start) 0
+      after p h = get_or-append_right (take start was) (part ++ rest) start p 0 first h
+
+      go : (p : ℕ) → p < length was → (p < start) ⊎ (start ≤ p) → (p < start + width) ⊎ (start + width ≤ p) → get_or all p 0 ≡ paste_at p
+      go p h (inl k) x =
+          let a : length (take start was) ≡ start = first in
+          get_or_append_left (take start was) (part ++ rest) 0 p (omega arith) ∙ get_or-take start was p 0 k ∙ sym (paste_below p k)
+      go p h (inr k) (inl j) =
+          let b : length part ≡ width = second in
+          after p k
+          ∙ get_or_append_left part rest 0 (p - start) (omega arith)
+          ∙ ap (λ ys. get_or ys (p - start) 0) is
+          ∙ get_or-take width row (p - start) 0 (omega arith)
+          ∙ sym (paste_inside p k j)
+      go p h (inr k) (inr j) =
+          let back : start + (mid + (p - start - width)) ≡ p = omega arith in
+          after p k
+          ∙ get_or-append_right part rest width (p - start) 0 second (omega arith)
+          ∙ get_or-drop mid (drop start was) (p - start - width) 0
+          ∙ get_or-drop start was (mid + (p - start - width)) 0
+          ∙ ap (λ n. get_or was n 0) back
+          ∙ sym (paste_above p j)
 
   pub length_pasted : length (pasted_of start width row was) ≡ length was
   unfolding pasted_of
@@ -97,11 +150,11 @@ module _ (q : List (List ℕ)) (count width : ℕ) (was : List ℕ) where
       pick_below (c * width + i) (count * width) (get_or (get_or q ((c * width + i) / width) []) ((c * width + i) % width) 0) (get_or was (c * width + i) 0) inside
       ∙ ap₂ (λ x y. get_or (get_or q x []) y 0) (digits_div c h) (digits_mod c h)
 
-  pub rows_none : Upto 0 rows_at was (0 * width) was
+  rows_none : Upto 0 rows_at was (0 * width) was
   rows_none =
       let e : 0 ≡ 0 * width = omega arith in subst (λ (n : ℕ). Upto 0 rows_at was n was) e (upto_none 0 rows_at was)
 
-  pub rows_more : (c : ℕ) (xs ys : List ℕ)
+  rows_more : (c : ℕ) (xs ys : List ℕ)
       → c < count
       → Upto 0 rows_at was (c * width) xs
       → ys ≡ pasted_of (c * width) width (get_or q c []) xs
@@ -137,7 +190,7 @@ module _ (q : List (List ℕ)) (count width : ℕ) (was : List ℕ) where
           ∙ sym (rows_place c i (omega arith) h)
           ∙ ap rows_at place
 
-  pub rows_all : (c : ℕ) (xs : List ℕ) → count ≤ c → c ≤ count → Upto 0 rows_at was (c * width) xs → xs ≡ rows_of q count width was
+  rows_all : (c : ℕ) (xs : List ℕ) → count ≤ c → c ≤ count → Upto 0 rows_at was (c * width) xs → xs ≡ rows_of q count width was
   unfolding rows_of
   rows_all c xs h k u =
       let e : c ≡ count = omega arith in
@@ -158,6 +211,65 @@ module _ (q : List (List ℕ)) (count width : ℕ) (was : List ℕ) where
   rows_fit c h k l n =
       let e : (c + 1) * width ≡ c * width + 1 * width = add-mul c 1 width in
       let m : (c + 1) * width ≤ 8 * 256 = mul-le-mul {n₁ = c + 1} {m₁ = width} {n₂ = 8} {m₂ = 256} (omega arith) l in
+      omega arith
+
+-- the workspace with the first c rows in it
+unfoldable pub Copied : List (List ℕ) → ℕ → ℕ → List ℕ → ℕ → List ℕ → Type 0
+Copied q count width was c xs = Upto 0 (rows_at q count width was) was (c * width) xs
+
+module _ (q : List (List ℕ)) (count width : ℕ) (was : List ℕ) where
+  pub copied_none : Copied q count width was 0 was
+  unfolding Copied
+  copied_none = rows_none q count width was
+
+  -- one row more
+  pub copied_more : (c : ℕ) (xs ys : List ℕ)
+      → length q ≡ 8
+      → count ≤ 8
+      → c < length (take count q)
+      → Copied q count width was c xs
+      → ys ≡ pasted_of (c * width) width (get_or (take count q) c []) xs
+      → Copied q count width was (c + 1) ys
+  unfolding Copied
+  copied_more c xs ys k few h u e =
+      let f : length (take count q) ≡ min count (length q) = length-take count q in
+      rows_more
+      q
+      count
+      width
+      was
+      c
+      xs
+      ys
+      (omega arith)
+      u
+      (e ∙ ap (λ row. pasted_of (c * width) width row xs) (get_or-take count q c [] (omega arith)))
+
+  pub copied_all : (c : ℕ) (xs : List ℕ)
+      → length q ≡ 8
+      → count ≤ 8
+      → length (take count q) ≤ c
+      → c ≤ length (take count q)
+      → Copied q count width was c xs
+      → xs ≡ rows_of q count width was
+  unfolding Copied
+  copied_all c xs k few h l u =
+      let f : length (take count q) ≡ min count (length q) = length-take count q in
+      rows_all q count width was c xs (omega arith) (omega arith) u
+
+  pub copied_fits : (c : ℕ) (xs : List ℕ)
+      → length q ≡ 8
+      → c < length (take count q)
+      → count ≤ 8
+      → width ≤ 256
+      → 2048 ≤ length was
+      → Copied q count width was c xs
+      → c * width + width ≤ length xs
+  unfolding Copied
+  copied_fits c xs k h few narrow room u =
+      let f : length (take count q) ≡ min count (length q) = length-take count q in
+      let long : length xs ≡ length was = u.long in
+      let fit : c * width + width ≤ length was = rows_fit q count width was c (omega arith) few narrow room in
       omega arith
 
 pub length_cleared : (count : ℕ) (xs : List ℕ) → length (cleared_of count xs) ≡ length xs

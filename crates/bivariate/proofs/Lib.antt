@@ -1,4 +1,6 @@
+pub mod Backwards
 pub mod Entries
+pub mod Expansions
 pub mod FieldNumbers
 pub mod Flattening
 pub mod LiftedCombinations

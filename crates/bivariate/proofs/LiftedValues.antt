@@ -5,7 +5,6 @@ use Prim.Native.Nat
 use Rattle.std.proofs.lemmas.Bool.{cases_lt}
 use Rattle.algebra.specs.Operations.{Operations, Lawful}
 use Rattle.algebra.specs.Ring.{CommRing}
-use Rattle.algebra.specs.Solver.{ring3, ◌:+◌, ◌:*◌, ◌:≡◌}
 use Rattle.algebra.specs.Series.{Series, tail}
 use Rattle.algebra.proofs.Coefficients.{zero_at}
 use Rattle.algebra.specs.Elements.{Elem, element_ring, into}
@@ -17,7 +16,7 @@ use Rattle.field.specs.Meaning.{Meaning, operations, sum_of, product_of}
 use Rattle.bivariate.specs.Horner.{entries, value_of, taylor_of, coefficient_of, expansion_of}
 use Rattle.bivariate.specs.Lifted.{series_of, RowOf}
 use Rattle.bivariate.proofs.Steps.{value_suc, value_zero, taylor_zero, taylor_suc_zero, taylor_suc_suc, expansion_at, expansion_past, expansion_outside}
-use Rattle.bivariate.proofs.FieldNumbers.{zero_element, sum_element, into_horner}
+use Rattle.bivariate.proofs.FieldNumbers.{zero_element, sum_element, into_multiple}
 use Rattle.bivariate.proofs.Upto.{pick_below, pick_above}
 
 module _ (m : Meaning) (law : Lawful (operations m)) where
@@ -59,31 +58,28 @@ module _ (m : Meaning) (law : Lawful (operations m)) where
     taylor_lift_from i zero r = ap ι (sym (taylor_zero m a cs i 0 r refl)) ∙ into_zero o law ∙ sym (zero_at R r)
     taylor_lift_from i (suc n) zero =
         ap ι (taylor_suc_zero m a cs i n)
-        ∙ into_horner m law (taylor_of m a cs (suc i) n 0) a (cs i) (taylor_element a cs (suc i) n 0) element (elements i)
+        ∙ into_multiple m law (cs i) a (taylor_of m a cs (suc i) n 0) (elements i) element (taylor_element a cs (suc i) n 0)
         ∙ ap₂
-        (λ x y. x * ι a + y)
-        (taylor_lift_from (suc i) n 0 ∙ ap (λ f. taylor R n f (ι a) 0) (sym (from_tail cs i)))
+        (λ x y. x + ι a * y)
         (sym (from_head cs i))
-        ∙ ring3 R (λ t b h. t :* b :+ h :≡ h :+ b :* t) tt (taylor R n (tail (from cs i)) (ι a) 0) (ι a) (from cs i 0)
+        (taylor_lift_from (suc i) n 0 ∙ ap (λ f. taylor R n f (ι a) 0) (sym (from_tail cs i)))
         ∙ sym (taylor_suc_at_zero R n (from cs i) (ι a))
     taylor_lift_from i (suc n) (suc r) =
         ap ι (taylor_suc_suc m a cs i n r)
-        ∙ into_horner
+        ∙ into_multiple
         m
         law
-        (taylor_of m a cs (suc i) n (suc r))
-        a
         (taylor_of m a cs (suc i) n r)
-        (taylor_element a cs (suc i) n (suc r))
-        element
+        a
+        (taylor_of m a cs (suc i) n (suc r))
         (taylor_element a cs (suc i) n r)
+        element
+        (taylor_element a cs (suc i) n (suc r))
         ∙ ap₂
-        (λ x y. x * ι a + y)
-        (taylor_lift_from (suc i) n (suc r) ∙ ap (λ f. taylor R n f (ι a) (suc r)) (sym (from_tail cs i)))
+        (λ x y. x + ι a * y)
         (taylor_lift_from (suc i) n r ∙ ap (λ f. taylor R n f (ι a) r) (sym (from_tail cs i)))
-        ∙ ap
-        (λ x. x + taylor R n (tail (from cs i)) (ι a) r)
-        (R.mul_comm (taylor R n (tail (from cs i)) (ι a) (suc r)) (ι a))
+        (taylor_lift_from (suc i) n (suc r) ∙ ap (λ f. taylor R n f (ι a) (suc r)) (sym (from_tail cs i)))
+        ∙ R.add_comm (taylor R n (tail (from cs i)) (ι a) r) (ι a * taylor R n (tail (from cs i)) (ι a) (suc r))
         ∙ sym (taylor_suc_at_suc R n (from cs i) (ι a) r)
 
     -- the numbers that the program computes are the coefficients of the expansion
@@ -103,7 +99,7 @@ module _ (m : Meaning) (law : Lawful (operations m)) where
     value_as_taylor : (i n : ℕ) → value_of m a cs i n ≡ taylor_of m a cs i n 0
     value_as_taylor i zero = value_zero m a cs i ∙ taylor_zero m a cs i 0 0 refl
     value_as_taylor i (suc n) =
-        value_suc m a cs i n ∙ ap (λ x. sum_of m (product_of m x a) (cs i)) (value_as_taylor (suc i) n) ∙ sym (taylor_suc_zero m a cs i n)
+        value_suc m a cs i n ∙ ap (λ x. sum_of m (cs i) (product_of m a x)) (value_as_taylor (suc i) n) ∙ sym (taylor_suc_zero m a cs i n)
 
     -- the number that the program computes is the value
     pub value_lift : (n : ℕ) → ι (value_of m a cs 0 n) ≡ eval R n (λ k. ι (cs k)) (ι a)

@@ -1,10 +1,10 @@
 -- The steps of the loops that write rows and polynomials.
-use Rattle.std.proofs.Common.{◌≡◌, ℕ, suc, ◌+◌, ◌-◌, ◌*◌, ◌^◌, ◌<◌, ◌≤◌, min, cond, ltb, List, [], length, get_or, set, sym, ap, ◌∙◌, ap₂, arith}
-use Rattle.field.specs.Meaning.{Meaning, sum_of, negative_of, product_of}
-use Rattle.bivariate.specs.Horner.{before}
-use Rattle.bivariate.specs.Combinations.{row_length, plus_of, minus_of, times_of, changed}
-use Rattle.bivariate.proofs.Steps.{before_suc}
-use Rattle.bivariate.proofs.Upto.{Upto, upto_here, upto_write, upto_all, pick_below, pick_above}
+use Rattle.std.proofs.Common.{◌≡◌, ℕ, ◌+◌, ◌-◌, ◌*◌, ◌^◌, ◌<◌, ◌≤◌, min, cond, ltb, List, [], ◌++◌, length, take, drop, get_or, set, sym, ap, ◌∙◌, arith}
+use Rattle.std.proofs.lemmas.List.{length-take}
+use Rattle.field.specs.Meaning.{Meaning, sum_of, product_of}
+use Rattle.bivariate.specs.Combinations.{row_length, plus_of, minus_of, times_of, changed, minus_polynomial_of, times_polynomial_of}
+use Rattle.bivariate.specs.Roots.{lower_row, lower_of, raise_row, raise_of}
+use Rattle.bivariate.proofs.Upto.{Part, part_here, part_write, part_all, Upto, upto_none, upto_here, upto_write, upto_all, pick_below, pick_above}
 
 pub row_length_is : (bound weight c product difference result : ℕ)
     → bound < 2 ^ 64
@@ -35,139 +35,193 @@ plus_at m k len target source i =
     cond (ltb i len) (sum_of m (get_or target i 0) (product_of m k (get_or source i 0))) (get_or target i 0)
 
 module _ (m : Meaning) (k len : ℕ) (was source : List ℕ) where
-  pub plus_more : (i : ℕ) (xs : List ℕ) (sum : ℕ)
-      → i < len
-      → i < length was
-      → Upto 0 (plus_at m k len was source) was i xs
+  pub plus_more : (n i : ℕ) (xs : List ℕ) (sum : ℕ)
+      → n ≡ min len 256
+      → i < length (take n was)
+      → Part 0 (plus_at m k len was source) was (length (take n was)) i xs
       → sum ≡ sum_of m (get_or xs i 0) (product_of m k (get_or source i 0))
-      → Upto 0 (plus_at m k len was source) was (i + 1) (set xs i sum)
-  plus_more i xs sum l h u s =
-      upto_write
+      → Part 0 (plus_at m k len was source) was (length (take n was)) (i + 1) (set xs i sum)
+  plus_more n i xs sum l h u s =
+      let long : length (take n was) ≡ min n (length was) = length-take n was in
+      part_write
       0
       (plus_at m k len was source)
       was
+      _
       i
       xs
       sum
       h
       u
       (s
-      ∙ ap (λ x. sum_of m x (product_of m k (get_or source i 0))) (upto_here 0 (plus_at m k len was source) was i xs u)
-      ∙ sym (pick_below i len (sum_of m (get_or was i 0) (product_of m k (get_or source i 0))) (get_or was i 0) l))
+      ∙ ap (λ x. sum_of m x (product_of m k (get_or source i 0))) (part_here 0 (plus_at m k len was source) was _ i xs h u)
+      ∙ sym (pick_below i len (sum_of m (get_or was i 0) (product_of m k (get_or source i 0))) (get_or was i 0) (omega arith)))
 
-  pub plus_all : (i : ℕ) (xs : List ℕ)
+  pub plus_all : (n i : ℕ) (xs : List ℕ)
       → length was ≡ 256
-      → min len 256 ≤ i
-      → Upto 0 (plus_at m k len was source) was i xs
-      → xs ≡ plus_of m k len was source
+      → n ≡ min len 256
+      → length (take n was) ≤ i
+      → Part 0 (plus_at m k len was source) was (length (take n was)) i xs
+      → xs ++ drop n was ≡ plus_of m k len was source
   unfolding plus_of
-  plus_all i xs e l u =
-      upto_all
+  plus_all n i xs e q h u =
+      part_all
       0
       (plus_at m k len was source)
       was
+      n
       256
       i
       xs
       e
+      (omega arith)
+      h
       u
       (λ j a b. sym (pick_above j len (sum_of m (get_or was j 0) (product_of m k (get_or source j 0))) (get_or was j 0) (omega arith)))
-
--- the coefficient i of the product with x − a
-abbrev pub times_at : Meaning → ℕ → ℕ → List ℕ → ℕ → ℕ
-times_at m a len row i =
-    cond (ltb i len) (sum_of m (before 0 row i) (product_of m (negative_of m a) (get_or row i 0))) (get_or row i 0)
-
-module _ (m : Meaning) (a len : ℕ) (was : List ℕ) where
-  pub times_more : (i : ℕ) (xs : List ℕ) (factor carry sum : ℕ)
-      → i < len
-      → i < length was
-      → Upto 0 (times_at m a len was) was i xs × (carry ≡ before 0 was i)
-      → factor ≡ negative_of m a
-      → sum ≡ sum_of m carry (product_of m factor (get_or xs i 0))
-      → Upto 0 (times_at m a len was) was (i + 1) (set xs i sum) × (get_or xs i 0 ≡ before 0 was (i + 1))
-  times_more i xs factor carry sum l h inv f s =
-      let old : get_or xs i 0 ≡ get_or was i 0 = upto_here 0 (times_at m a len was) was i xs inv.0 in
-      let up : suc i ≡ i + 1 = omega arith in (
-        upto_write
-            0
-            (times_at m a len was)
-            was
-            i
-            xs
-            sum
-            h
-            inv.0
-            (s
-            ∙ ap₂ (sum_of m) inv.1 (ap₂ (product_of m) f old)
-            ∙ sym (pick_below i len (sum_of m (before 0 was i) (product_of m (negative_of m a) (get_or was i 0))) (get_or was i 0) l)),
-        old ∙ sym (before_suc 0 was i) ∙ ap (before 0 was) up,
-      )
-
-  pub times_all : (i : ℕ) (xs : List ℕ)
-      → length was ≡ 256
-      → min len 256 ≤ i
-      → Upto 0 (times_at m a len was) was i xs
-      → xs ≡ times_of m a len was
-  unfolding times_of
-  times_all i xs e l u =
-      upto_all
-      0
-      (times_at m a len was)
-      was
-      256
-      i
-      xs
-      e
-      u
-      (λ j b d. sym (pick_above j len (sum_of m (before 0 was j) (product_of m (negative_of m a) (get_or was j 0))) (get_or was j 0) (omega arith)))
 
 -- row c of a polynomial whose rows below l are made anew
 abbrev pub changing : ℕ → (ℕ → List ℕ → List ℕ) → List (List ℕ) → ℕ → List ℕ
 changing l f q c = cond (ltb c l) (f c (get_or q c [])) (get_or q c [])
 
 module _ (l : ℕ) (f : ℕ → List ℕ → List ℕ) (was : List (List ℕ)) where
-  pub changed_more : (c : ℕ) (xs : List (List ℕ)) (row : List ℕ)
-      → c < l
-      → c < length was
-      → Upto [] (changing l f was) was c xs
+  pub changed_more : (n c : ℕ) (xs : List (List ℕ)) (row : List ℕ)
+      → n ≡ min l 8
+      → c < length (take n was)
+      → Part [] (changing l f was) was (length (take n was)) c xs
       → row ≡ f c (get_or xs c [])
-      → Upto [] (changing l f was) was (c + 1) (set xs c row)
-  changed_more c xs row h k u e =
-      upto_write
+      → Part [] (changing l f was) was (length (take n was)) (c + 1) (set xs c row)
+  changed_more n c xs row k h u e =
+      let long : length (take n was) ≡ min n (length was) = length-take n was in
+      part_write
       []
       (changing l f was)
       was
+      _
       c
       xs
       row
-      k
+      h
       u
       (e
-      ∙ ap (f c) (upto_here [] (changing l f was) was c xs u)
-      ∙ sym (pick_below c l (f c (get_or was c [])) (get_or was c []) h))
+      ∙ ap (f c) (part_here [] (changing l f was) was _ c xs h u)
+      ∙ sym (pick_below c l (f c (get_or was c [])) (get_or was c []) (omega arith)))
 
-  pub changed_all : (c : ℕ) (xs : List (List ℕ))
+  pub changed_all : (n c : ℕ) (xs : List (List ℕ))
       → length was ≡ 8
-      → min l 8 ≤ c
-      → Upto [] (changing l f was) was c xs
-      → xs ≡ changed l f was
+      → n ≡ min l 8
+      → length (take n was) ≤ c
+      → Part [] (changing l f was) was (length (take n was)) c xs
+      → xs ++ drop n was ≡ changed l f was
   unfolding changed
-  changed_all c xs e h u =
-      upto_all
+  changed_all n c xs e q h u =
+      part_all
       []
       (changing l f was)
       was
+      n
       8
       c
       xs
       e
+      (omega arith)
+      h
       u
       (λ j a b. sym (pick_above j l (f j (get_or was j [])) (get_or was j []) (omega arith)))
 
-pub minus_is : (m : Meaning) (k len negative : ℕ) (was source xs : List ℕ)
-    → negative ≡ negative_of m k
-    → xs ≡ plus_of m negative len was source
-    → xs ≡ minus_of m k len was source
-unfolding minus_of
-minus_is m k len negative was source xs e p = p ∙ ap (λ n. plus_of m n len was source) e
+module _ (m : Meaning) (k l bound weight : ℕ) (was source : List (List ℕ)) where
+  -- what a difference makes of row c
+  abbrev pub minus_row : ℕ → List ℕ → List ℕ
+  minus_row c row = minus_of m k (row_length bound weight c) row (get_or source c [])
+
+  pub minus_more : (n c len : ℕ) (xs : List (List ℕ)) (row : List ℕ)
+      → n ≡ min l 8
+      → c < length (take n was)
+      → Part [] (changing l minus_row was) was (length (take n was)) c xs
+      → len ≡ row_length bound weight c
+      → row ≡ minus_of m k len (get_or xs c []) (get_or source c [])
+      → Part [] (changing l minus_row was) was (length (take n was)) (c + 1) (set xs c row)
+  minus_more n c len xs row q h u e r =
+      changed_more l minus_row was n c xs row q h u (r ∙ ap (λ j. minus_of m k j (get_or xs c []) (get_or source c [])) e)
+
+  pub minus_all : (n c : ℕ) (xs : List (List ℕ))
+      → length was ≡ 8
+      → n ≡ min l 8
+      → length (take n was) ≤ c
+      → Part [] (changing l minus_row was) was (length (take n was)) c xs
+      → xs ++ drop n was ≡ minus_polynomial_of m k l bound weight was source
+  unfolding minus_polynomial_of
+  minus_all n c xs e q h u = changed_all l minus_row was n c xs e q h u
+
+module _ (m : Meaning) (a l bound weight : ℕ) (was : List (List ℕ)) where
+  -- what a product makes of row c
+  abbrev pub times_row : ℕ → List ℕ → List ℕ
+  times_row c row = times_of m a (row_length bound weight c) row
+
+  pub times_more : (n c len : ℕ) (xs : List (List ℕ)) (row : List ℕ)
+      → n ≡ min l 8
+      → c < length (take n was)
+      → Part [] (changing l times_row was) was (length (take n was)) c xs
+      → len ≡ row_length bound weight c
+      → row ≡ times_of m a len (get_or xs c [])
+      → Part [] (changing l times_row was) was (length (take n was)) (c + 1) (set xs c row)
+  times_more n c len xs row q h u e r =
+      changed_more l times_row was n c xs row q h u (r ∙ ap (λ j. times_of m a j (get_or xs c [])) e)
+
+  pub times_all : (n c : ℕ) (xs : List (List ℕ))
+      → length was ≡ 8
+      → n ≡ min l 8
+      → length (take n was) ≤ c
+      → Part [] (changing l times_row was) was (length (take n was)) c xs
+      → xs ++ drop n was ≡ times_polynomial_of m a l bound weight was
+  unfolding times_polynomial_of
+  times_all n c xs e q h u = changed_all l times_row was n c xs e q h u
+
+-- rows below c made anew, in a loop over all of them
+unfoldable pub Changing : (ℕ → List ℕ → List ℕ) → List (List ℕ) → ℕ → List (List ℕ) → Type 0
+Changing f was c xs = Upto [] (changing 8 f was) was c xs
+
+module _ (f : ℕ → List ℕ → List ℕ) (was : List (List ℕ)) where
+  pub changing_none : Changing f was 0 was
+  unfolding Changing
+  changing_none = upto_none [] (changing 8 f was) was
+
+  pub changing_more : (c : ℕ) (xs : List (List ℕ)) (row : List ℕ)
+      → length was ≡ 8
+      → c < 8
+      → Changing f was c xs
+      → row ≡ f c (get_or xs c [])
+      → Changing f was (c + 1) (set xs c row)
+  unfolding Changing
+  changing_more c xs row h k u e =
+      upto_write
+      []
+      (changing 8 f was)
+      was
+      c
+      xs
+      row
+      (omega arith)
+      u
+      (e
+      ∙ ap (f c) (upto_here [] (changing 8 f was) was c xs u)
+      ∙ sym (pick_below c 8 (f c (get_or was c [])) (get_or was c []) k))
+
+  changing_all : (c : ℕ) (xs : List (List ℕ)) → length was ≡ 8 → 8 ≤ c → Changing f was c xs → xs ≡ changed 8 f was
+  unfolding Changing changed
+  changing_all c xs h k u = upto_all [] (changing 8 f was) was 8 c xs h u (λ j a b. absurd (omega arith))
+
+pub lowering_all : (was : List (List ℕ)) (c : ℕ) (xs : List (List ℕ))
+    → length was ≡ 8
+    → 8 ≤ c
+    → Changing (λ _ row. lower_row row) was c xs
+    → xs ≡ lower_of was
+unfolding lower_of
+lowering_all was c xs h k u = changing_all (λ _ row. lower_row row) was c xs h k u
+
+pub raising_all : (was : List (List ℕ)) (c : ℕ) (xs : List (List ℕ))
+    → length was ≡ 8
+    → 8 ≤ c
+    → Changing raise_row was c xs
+    → xs ≡ raise_of was
+unfolding raise_of
+raising_all was c xs h k u = changing_all raise_row was c xs h k u

@@ -10,22 +10,27 @@ entries row i = slice_index row i
 -- the value at a of cs i + cs (i + 1)·x + …, with n coefficients
 unfoldable pub value_of : Meaning → ℕ → (ℕ → ℕ) → ℕ → ℕ → ℕ
 value_of m a cs i zero = 0
-value_of m a cs i (suc n) = sum_of m (product_of m (value_of m a cs (suc i) n) a) (cs i)
+value_of m a cs i (suc n) = sum_of m (cs i) (product_of m a (value_of m a cs (suc i) n))
 
 -- the coefficient of x^r of the same polynomial at a + x
 unfoldable pub taylor_of : Meaning → ℕ → (ℕ → ℕ) → ℕ → ℕ → ℕ → ℕ
 taylor_of m a cs i zero r = 0
-taylor_of m a cs i (suc n) zero = sum_of m (product_of m (taylor_of m a cs (suc i) n 0) a) (cs i)
-taylor_of m a cs i (suc n) (suc r) = sum_of m (product_of m (taylor_of m a cs (suc i) n (suc r)) a) (taylor_of m a cs (suc i) n r)
+taylor_of m a cs i (suc n) zero = sum_of m (cs i) (product_of m a (taylor_of m a cs (suc i) n 0))
+taylor_of m a cs i (suc n) (suc r) = sum_of m (taylor_of m a cs (suc i) n r) (product_of m a (taylor_of m a cs (suc i) n (suc r)))
 
 -- c in front of the list: c at 0, and what stands at r − 1 at any other r
 unfoldable pub before : ℕ → List ℕ → ℕ → ℕ
 before c h zero = c
 before c h (suc r) = slice_index h r
 
+-- c + (x + a)·row in the first len coefficients of a row of size
+unfoldable pub nested_of : ℕ → Meaning → ℕ → ℕ → ℕ → List ℕ → List ℕ
+nested_of size m len a c row =
+    made size (λ i. cond (nat_lt i len) (sum_of m (before c row i) (product_of m a (slice_index row i))) (slice_index row i))
+
 -- the first coefficients h of f(a + x) turned into those of c + x·f(x) at a + x, as far as order
 unfoldable pub pushed : Meaning → ℕ → ℕ → ℕ → List ℕ → List ℕ
-pushed m order a c h = made 8 (λ r. cond (nat_lt r order) (sum_of m (product_of m (slice_index h r) a) (before c h r)) (slice_index h r))
+pushed m order a c h = nested_of 8 m order a c h
 
 -- the coefficients below order of the expansion at a of cs i + cs (i + 1)·x + …, with n coefficients, and 0 in place of the others
 unfoldable pub expansion_of : Meaning → ℕ → (ℕ → ℕ) → ℕ → ℕ → ℕ → List ℕ

@@ -1,58 +1,47 @@
 // Coefficients of the expansion of a polynomial at a point.
-ghost use Rattle.std.specs.Prelude.{◌≡◌, min};
-ghost use Rattle.bivariate.specs.Combinations.{row_length, term_of, discrepancy_of};
-ghost use Rattle.bivariate.specs.Horner.{expansion_of};
+ghost use Rattle.std.specs.Prelude.{◌≡◌};
+ghost use Rattle.bivariate.specs.Combinations.{term_within, terms_of, discrepancy_of};
 
-use crate::values::{coefficient, push};
+use crate::bounds::{Bounds, Polynomial};
+use crate::values::coefficient;
 use field::Field;
+use std::array;
 
-// How many coefficients row c has where the weighted degree is below bound.
-pub(crate) fn row_length(bound: usize, weight: usize, c: usize) -> usize
-    ensures { result ≡ row_length bound weight c }
-{
-    bound.saturating_sub(c.saturating_mul(weight)).min(256)
+// The condition that in q(a + x, b + y) the coefficient of x^r y^u be 0.
+#[derive(Clone, Copy, Debug, PartialEq, Eq)]
+pub struct Condition {
+    pub a: u16,
+    pub b: u16,
+    pub u: usize,
+    pub r: usize,
 }
 
-// The first coefficients of g(b + y), as many as order says, where g has the coefficients of x^r of the rows at a + x.
-fn expansion_in_y<F: Field>(
-    field: &F,
-    q: &[[u16; 256]; 8],
-    l: usize,
-    bound: usize,
-    weight: usize,
-    a: u16,
-    b: u16,
-    order: usize,
-    r: usize,
-) -> [u16; 8]
-    ensures { result ≡ expansion_of (F.meaning field.now) b (term_of (F.meaning field.now) q.now bound weight a r) 0 (min l 8) order }
+// The coefficient of x^r of row c at a + x, and 0 for a row that is not worked on.
+#[tactic(auto, using(crate::proofs::Writing::row_length_clipped), unfolding(crate::specs::Combinations::term_within))]
+fn term<F: Field>(field: &F, q: &Polynomial, bounds: Bounds, a: u16, r: usize, c: usize) -> u16
+    ensures { result ≡ term_within (F.meaning field.now) q.now bounds.l bounds.bound bounds.weight a r c }
 {
-    let mut h = [0; 8];
-    for c in (0..l.min(8)).rev() {
-        let term = coefficient(field, &q[c], row_length(bound, weight, c), a, r);
-        push(field, &mut h, order, b, term);
+    if c < bounds.rows() {
+        coefficient(field, &q[c], bounds.row_length(c), a, r)
+    } else {
+        0
     }
-    h
+}
+
+// The coefficients of x^r of the rows at a + x, and 0 for the rows that are not worked on.
+#[tactic(auto, unfolding(crate::specs::Combinations::terms_of, crate::specs::Made::made))]
+fn terms<F: Field>(field: &F, q: &Polynomial, bounds: Bounds, a: u16, r: usize) -> [u16; 8]
+    ensures { result ≡ terms_of (F.meaning field.now) q.now bounds.l bounds.bound bounds.weight a r }
+{
+    array::from_fn(|c| term(field, q, bounds, a, r, c))
 }
 
 // The coefficient of x^r y^u of q(a + x, b + y), where row c of q has bound − c·weight coefficients and
 // those from l on are not read; 0 where u or r is above 7.
-pub fn discrepancy<F: Field>(
-    field: &F,
-    q: &[[u16; 256]; 8],
-    l: usize,
-    bound: usize,
-    weight: usize,
-    a: u16,
-    b: u16,
-    u: usize,
-    r: usize,
-) -> u16
-    ensures { result ≡ discrepancy_of (F.meaning field.now) q.now l bound weight a b u r }
+#[tactic(auto, using(crate::proofs::Expansions::discrepancy_is))]
+pub fn discrepancy<F: Field>(field: &F, q: &Polynomial, bounds: Bounds, condition: Condition) -> u16
+    ensures { result ≡ discrepancy_of (F.meaning field.now) q.now bounds.l bounds.bound bounds.weight condition.a condition.b condition.u condition.r }
 {
-    if u < 8 {
-        expansion_in_y(field, q, l, bound, weight, a, b, u + 1, r)[u]
-    } else {
-        0
-    }
+    let terms = terms(field, q, bounds, condition.a, condition.r);
+    coefficient(field, &terms, bounds.rows(), condition.b, condition.u)
 }

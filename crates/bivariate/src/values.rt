@@ -1,66 +1,56 @@
-// Values and expansions of one row.
+// Expansions of one row, and the products with x + a that they are made of.
 ghost use Rattle.std.specs.Prelude.{◌≡◌, min};
-ghost use Rattle.field.specs.Meaning.{sum_of, product_of};
-ghost use Rattle.bivariate.specs.Horner.{entries, value_of, pushed, expansion_of, coefficient_of};
+ghost use Rattle.bivariate.specs.Horner.{entries, nested_of, expansion_of, coefficient_of};
 
-use field::Field;
+use field::{Field, multiply_add};
 
-// One step of Horner's rule: h·a + c.
-pub(crate) fn horner<F: Field>(field: &F, h: u16, a: u16, c: u16) -> u16
-    ensures { result ≡ sum_of (F.meaning field.now) (product_of (F.meaning field.now) h a) c }
-{
-    field.sum(field.product(h, a), c)
-}
-
-// The value at a of the first len coefficients.
-pub fn value<F: Field>(field: &F, row: &[u16; 256], len: usize, a: u16) -> u16
-    ensures { result ≡ value_of (F.meaning field.now) a (entries row.now) 0 (min len 256) }
-{
-    let mut result = 0;
-    for i in (0..len.min(256)).rev() {
-        result = horner(field, result, a, row[i]);
-    }
-    result
-}
-
-// The first coefficients h of f(a + x) become those of g(a + x), where g(x) = c + x·f(x).
-pub(crate) fn push<F: Field>(field: &F, h: &mut [u16; 8], order: usize, a: u16, c: u16)
-    ensures { h.new ≡ pushed (F.meaning field.now) order a c h.old }
+// Multiplies the first len coefficients by x + a and adds c, where what would come after them is dropped. With the
+// coefficients of f(a + x) given, these become those of g(a + x), where g(x) = c + x·f(x).
+#[tactic(auto, using(crate::proofs::Steps::nested_none, crate::proofs::Steps::nested_more, crate::proofs::Steps::nested_all))]
+pub(crate) fn multiply_x_plus<F: Field, const N: usize>(
+    field: &F,
+    row: &mut [u16; N],
+    len: usize,
+    a: u16,
+    c: u16,
+)
+    ensures { row.new ≡ nested_of N (F.meaning field.now) len a c row.old }
 {
     let mut carry = c;
-    for r in 0..order.min(8) {
-        let old = h[r];
-        h[r] = horner(field, old, a, carry);
+    for coefficient in row[..len.min(N)].iter_mut() {
+        let old = *coefficient;
+        *coefficient = multiply_add(field, carry, a, old);
         carry = old;
     }
 }
 
 // The first coefficients of f(a + x), as many as order says, where f has the first len coefficients of the row.
-pub fn expansion<F: Field>(
+#[tactic(auto, using(crate::proofs::Steps::expanding_none, crate::proofs::Steps::expanding_more, crate::proofs::Steps::expanding_all))]
+pub fn expansion<F: Field, const N: usize>(
     field: &F,
-    row: &[u16; 256],
+    row: &[u16; N],
     len: usize,
     a: u16,
     order: usize,
 ) -> [u16; 8]
-    ensures { result ≡ expansion_of (F.meaning field.now) a (entries row.now) 0 (min len 256) order }
+    ensures { result ≡ expansion_of (F.meaning field.now) a (entries row.now) 0 (min len N) order }
 {
     let mut h = [0; 8];
-    for i in (0..len.min(256)).rev() {
-        push(field, &mut h, order, a, row[i]);
+    for c in row[..len.min(N)].iter().rev() {
+        multiply_x_plus(field, &mut h, order, a, *c);
     }
     h
 }
 
 // The coefficient of x^r of f(a + x), where f has the first len coefficients of the row; 0 from r = 8 on.
-pub(crate) fn coefficient<F: Field>(
+pub(crate) fn coefficient<F: Field, const N: usize>(
     field: &F,
-    row: &[u16; 256],
+    row: &[u16; N],
     len: usize,
     a: u16,
     r: usize,
 ) -> u16
-    ensures { result ≡ coefficient_of (F.meaning field.now) a (entries row.now) (min len 256) r }
+    ensures { result ≡ coefficient_of (F.meaning field.now) a (entries row.now) (min len N) r }
 {
     if r < 8 {
         expansion(field, row, len, a, r + 1)[r]

@@ -12,7 +12,7 @@ pub mod prime;
 pub mod refusal;
 
 pub use binary::BinaryField;
-pub use letter::{is_letter, laws_hold};
+pub use letter::{is_letter, laws_hold, multiply_add};
 pub use prime::PrimeField;
 pub use refusal::FieldFault;
 

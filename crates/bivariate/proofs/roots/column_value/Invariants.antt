@@ -1,7 +1,5 @@
-use Rattle.std.proofs.Common.{◌≡◌, ◌-◌, min}
-use Rattle.bivariate.specs.Horner.{value_of}
-use Rattle.bivariate.specs.Roots.{column}
+use Rattle.bivariate.proofs.Searching.{Valuing}
 use Rattle.bivariate.proofs.roots.column_value.Given as goal
 
-abbrev pub invariant-loop-c : goal.invariant-loop-c
-invariant-loop-c g l = l.result ≡ value_of (g.F.Field.meaning l.field) l.g (column l.q l.i) l.c (min l.l 8 - l.c)
+abbrev pub invariant-loop-row : goal.invariant-loop-row
+invariant-loop-row g l = Valuing (g.F.Field.meaning l.field) l.g l.fn.bounds.l l.q l.i l.row-iterator.iter.rest.now l.value

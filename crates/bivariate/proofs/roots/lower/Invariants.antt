@@ -1,8 +1,6 @@
-use Rattle.std.proofs.Common.{[]}
 use Rattle.bivariate.specs.Roots.{lower_row}
-use Rattle.bivariate.proofs.Upto.{Upto}
-use Rattle.bivariate.proofs.Writing.{changing}
+use Rattle.bivariate.proofs.Writing.{Changing}
 use Rattle.bivariate.proofs.roots.lower.Given as goal
 
-abbrev pub invariant-loop-c : goal.invariant-loop-c
-invariant-loop-c l = Upto [] (changing 8 (λ _ row. lower_row row) l.initial.q) l.initial.q l.c l.q
+abbrev pub invariant-loop-row : goal.invariant-loop-row
+invariant-loop-row l = Changing (λ _ row. lower_row row) l.initial.q l.row-index l.q

@@ -1,6 +1,7 @@
-use Rattle.std.proofs.Common.{◌≡◌, ◌-◌, min}
-use Rattle.bivariate.specs.Horner.{entries, expansion_of}
+use Rattle.std.proofs.Common.{length}
+use Rattle.bivariate.proofs.Steps.{Expanding}
 use Rattle.bivariate.proofs.values.expansion.Given as goal
 
-abbrev pub invariant-loop-i : goal.invariant-loop-i
-invariant-loop-i g l = l.h ≡ expansion_of (g.F.Field.meaning l.field) l.a (entries l.row) l.i (min l.len 256 - l.i) l.order
+abbrev pub invariant-loop-c : goal.invariant-loop-c
+invariant-loop-c g l =
+    Expanding (g.F.Field.meaning l.field) l.a l.order l.row (length l.initial.c-iterator.iter.rest.now) l.c-iterator.iter.rest.now l.h
