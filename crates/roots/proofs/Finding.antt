@@ -1,6 +1,6 @@
 -- What the search puts down are all roots, each once.
-use Rattle.std.proofs.Common.{◌≡◌, ℕ, suc, ◌+◌, ◌<◌, ◌≤◌, min, List, [], map, length, get_or, take, sym, ap, ◌∙◌, arith}
-use Rattle.std.proofs.lemmas.List.{length-map, get_or-map}
+use Rattle.std.proofs.Common.{◌≡◌, ℕ, suc, ◌<◌, ◌≤◌, List, [], map, length, get_or, take, sym, ap, ◌∙◌, arith}
+use Rattle.std.proofs.lemmas.List.{length-map, get_or-map, take_all}
 use Rattle.algebra.specs.Operations.{Operations, Lawful}
 use Rattle.algebra.specs.Elements.{Elem, element_ring, elements, into}
 use Rattle.algebra.specs.RootSearch.{Nonzero}
@@ -10,9 +10,9 @@ use Rattle.algebra.proofs.RootTheorems.{search_finds_roots}
 use Rattle.field.specs.Meaning.{Meaning, operations}
 use Rattle.bivariate.specs.Lifted.{polynomial_of, Sized}
 use Rattle.bivariate.proofs.LiftedSizes.{within_weighted, narrow_below}
-use Rattle.roots.specs.Search.{roots_of, put_of, zero_word, Computes}
+use Rattle.roots.specs.Search.{roots_of, zero_word}
 use Rattle.roots.specs.Found.{numbers, Finds}
-use Rattle.roots.proofs.Words.{placed, placed_read, put_at}
+use Rattle.roots.proofs.Words.{placed, placed_read}
 use Rattle.roots.proofs.Lifting.{roots_lift}
 
 module _ (m : Meaning) (q : List (List ℕ)) (l bound degree : ℕ) (law : Lawful (operations m)) (small : l ≤ 8) (fits : bound ≤ 256) (sized : Sized (operations m) l bound degree q) where
@@ -62,12 +62,12 @@ module _ (m : Meaning) (q : List (List ℕ)) (l bound degree : ℕ) (law : Lawfu
       (length-map (get_or listed i []) (λ a. a.0) ∙ listed_roots.long (get_or listed i []) (member_at listed i [] h))
       (omega arith)
 
--- an array of seven words has all roots, if what was computed was put down in it
-pub found_all : (m : Meaning) (q : List (List ℕ)) (l bound degree : ℕ) (words after : List (List ℕ)) (count : ℕ)
-    → length words ≡ 7
-    → Computes m q l bound degree words after count
-    → Finds m q l bound degree after count
-found_all m q l bound degree words after count long done law small fits short sized nonzero =
+-- the first seven words are all roots
+pub found_all : (m : Meaning) (q : List (List ℕ)) (l bound degree : ℕ) (words : List (List ℕ)) (count : ℕ)
+    → words ≡ take 7 (roots_of m l bound degree zero_word 0 q)
+    → count ≡ length words
+    → Finds m q l bound degree words count
+found_all m q l bound degree words count done long law small fits short sized nonzero =
     record {
       roots = listed m q l bound degree law small fits sized;
       all = listed_roots m q l bound degree law small fits sized;
@@ -79,25 +79,20 @@ found_all m q l bound degree words after count long done law small fits short si
     few : length (listed m q l bound degree law small fits sized) < l
     few = listed_few m q l bound degree law small fits sized nonzero
 
+    many : length (roots_of m l bound degree zero_word 0 q) ≡ length (listed m q l bound degree law small fits sized)
+    many = words_many m q l bound degree law small fits sized
+
+    -- there is room for all of them
+    whole : words ≡ roots_of m l bound degree zero_word 0 q
+    whole = done ∙ take_all 7 (roots_of m l bound degree zero_word 0 q) (omega (arith, many, few))
+
     same : count ≡ length (listed m q l bound degree law small fits sized)
-    same =
-        let e : length (roots_of m l bound degree zero_word 0 q) ≡ length (listed m q l bound degree law small fits sized)
-        = words_many m q l bound degree law small fits sized in
-        let k : count ≡ min 7 (length (roots_of m l bound degree zero_word 0 q)) = done.0 in
-        let f : length (listed m q l bound degree law small fits sized) < l = few in
-        omega arith
+    same = long ∙ ap length whole ∙ many
 
     coefficients : (i : ℕ)
         → i < count
-        → take (suc degree) (get_or after i [])
+        → take (suc degree) (get_or words i [])
         ≡ numbers (operations m) (get_or (listed m q l bound degree law small fits sized) i [])
     coefficients i h =
-        let e : length (roots_of m l bound degree zero_word 0 q) ≡ length (listed m q l bound degree law small fits sized)
-        = words_many m q l bound degree law small fits sized in
-        let k : count ≡ length (listed m q l bound degree law small fits sized) = same in
-        let f : length (listed m q l bound degree law small fits sized) < l = few in
-        let z : i ≡ 0 + i = omega arith in
-        ap (λ xs. take (suc degree) (get_or xs i [])) done.1
-        ∙ ap (λ j. take (suc degree) (get_or (put_of 0 (roots_of m l bound degree zero_word 0 q) words) j [])) z
-        ∙ ap (take (suc degree)) (put_at 0 (roots_of m l bound degree zero_word 0 q) words i (omega arith) (omega arith))
-        ∙ word_at m q l bound degree law small fits sized i (omega arith) short
+        ap (λ xs. take (suc degree) (get_or xs i [])) whole
+        ∙ word_at m q l bound degree law small fits sized i (omega (arith, same)) short

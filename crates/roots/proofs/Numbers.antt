@@ -1,10 +1,10 @@
 -- The search over numbers: its clauses, and what its loops do.
-use Rattle.std.proofs.Common.{◌≡◌, ℕ, zero, suc, ◌+◌, ◌-◌, ◌<◌, ◌≤◌, min, true, false, cond, eqb, ltb, ◌⊎◌, List, [], ◌∷◌, ◌++◌, length, set, sym, refl, ap, ◌∙◌, ap₂, inl, inr, arith, length-append, length-set}
-use Rattle.std.proofs.lemmas.List.{set_past}
-use Rattle.std.proofs.lemmas.Bool.{cases_lt, cond-true, cond-false, eq-eqb, ne_eqb, lt-ltb, le-ltb}
+use Rattle.std.proofs.Common.{◌≡◌, ℕ, zero, suc, ◌+◌, ◌-◌, ◌<◌, ◌≤◌, min, Bool, true, false, cond, eqb, ◌⊎◌, List, [], ◌∷◌, ◌++◌, length, take, set, sym, refl, ap, ◌∙◌, ap₂, inl, inr, arith}
+use Rattle.std.proofs.lemmas.List.{append-nil, append_assoc, take_all, take-append-le, length-take, length-take-le, length_push}
+use Rattle.std.proofs.lemmas.Bool.{cases_lt, cond-true, cond-false, eq-eqb, ne_eqb}
 use Rattle.field.specs.Meaning.{Meaning}
 use Rattle.bivariate.specs.Roots.{column, all_zero, lower_of, column_value_of, shifted_of}
-use Rattle.roots.specs.Search.{stripped_of, joined, roots_of, put_of, count_of}
+use Rattle.roots.specs.Search.{stripped_of, joined, roots_of}
 
 module _ (l : ℕ) where
   pub stripped_zero : (q : List (List ℕ)) → stripped_of l 0 q ≡ q
@@ -27,23 +27,44 @@ module _ (l : ℕ) where
   stripped_stop zero q e = stripped_zero q
   stripped_stop (suc n) q e = stripped_suc n q ∙ cond-false _ (stripped_of l n (lower_of q)) q e
 
-  -- a turn of the loop of divisions
-  pub strip_more : (most i : ℕ) (q q' end : List (List ℕ))
+-- what is left of the divisions leads to the polynomial divided as long as x divides it
+unfoldable pub Stripping : ℕ → ℕ → List (List ℕ) → ℕ → List (List ℕ) → Type 0
+Stripping l most was i q = stripped_of l (most - i) q ≡ stripped_of l most was
+
+module _ (l most : ℕ) (was : List (List ℕ)) where
+  pub stripping_none : Stripping l most was 0 was
+  unfolding Stripping
+  stripping_none = let e : most - 0 ≡ most = omega arith in ap (λ n. stripped_of l n was) e
+
+  -- one division more
+  pub stripping_more : (i : ℕ) (q next : List (List ℕ)) (b : Bool)
       → i < most
-      → true ≡ all_zero (column q 0) (min l 8)
-      → q' ≡ lower_of q
-      → stripped_of l (most - i) q ≡ end
-      → stripped_of l (most - (i + 1)) q' ≡ end
-  strip_more most i q q' end h t e k =
+      → Stripping l most was i q
+      → b ≡ all_zero (column q 0) (min l 8)
+      → b ≡ true
+      → next ≡ lower_of q
+      → Stripping l most was (i + 1) next
+  unfolding Stripping
+  stripping_more i q next b h k t y e =
       let up : most - i ≡ suc (most - (i + 1)) = omega arith in
       ap (stripped_of l (most - (i + 1))) e
-      ∙ sym (stripped_step (most - (i + 1)) q (sym t))
+      ∙ sym (stripped_step l (most - (i + 1)) q (sym t ∙ y))
       ∙ ap (λ n. stripped_of l n q) (sym up)
       ∙ k
 
-  pub strip_all : (most i : ℕ) (q end : List (List ℕ)) → most ≤ i → stripped_of l (most - i) q ≡ end → q ≡ end
-  strip_all most i q end h k =
-      let z : 0 ≡ most - i = omega arith in sym (stripped_zero q) ∙ ap (λ n. stripped_of l n q) z ∙ k
+  -- x does not divide it any more
+  pub stripping_stop : (i : ℕ) (q : List (List ℕ)) (b : Bool)
+      → Stripping l most was i q
+      → b ≡ all_zero (column q 0) (min l 8)
+      → b ≡ false
+      → q ≡ stripped_of l most was
+  unfolding Stripping
+  stripping_stop i q b k t n = sym (stripped_stop l (most - i) q (sym t ∙ n)) ∙ k
+
+  pub stripping_all : (i : ℕ) (q : List (List ℕ)) → most ≤ i → Stripping l most was i q → q ≡ stripped_of l most was
+  unfolding Stripping
+  stripping_all i q h k =
+      let z : 0 ≡ most - i = omega arith in sym (stripped_zero l q) ∙ ap (λ n. stripped_of l n q) z ∙ k
 
 module _ (f : ℕ → List (List ℕ)) where
   pub joined_zero : joined f 0 ≡ []
@@ -71,145 +92,64 @@ unfolding roots_of
 roots_branches m l bound zero chosen depth q = refl
 roots_branches m l bound (suc s) chosen depth q = refl
 
-pub put_nil : (count : ℕ) (words : List (List ℕ)) → put_of count [] words ≡ words
-unfolding put_of
-put_nil count words = refl
-
-pub put_cons : (count : ℕ) (w : List ℕ) (ws words : List (List ℕ))
-    → put_of count (w ∷ ws) words ≡ put_of (suc count) ws (set words count w)
-unfolding put_of
-put_cons count w ws words = refl
-
-pub put_length : (count : ℕ) (ws words : List (List ℕ)) → length (put_of count ws words) ≡ length words
-put_length count [] words = ap length (put_nil count words)
-put_length count (w ∷ ws) words =
-    ap length (put_cons count w ws words) ∙ put_length (suc count) ws (set words count w) ∙ length-set words count w
-
--- where there is no room
-pub put_past : (count : ℕ) (ws words : List (List ℕ)) → length words ≤ count → put_of count ws words ≡ words
-put_past count [] words h = put_nil count words
-put_past count (w ∷ ws) words h =
-    put_cons count w ws words
-    ∙ ap (put_of (suc count) ws) (set_past words count w h)
-    ∙ put_past (suc count) ws words (omega arith)
-
--- words in two parts
-pub put_append : (count : ℕ) (xs ys words : List (List ℕ))
-    → put_of count (xs ++ ys) words ≡ put_of (count + length xs) ys (put_of count xs words)
-put_append count [] ys words =
-    let e : count ≡ count + 0 = omega arith in
-    ap (λ n. put_of n ys words) e ∙ ap (put_of (count + 0) ys) (sym (put_nil count words))
-put_append count (x ∷ xs) ys words =
-    let e : suc count + length xs ≡ count + suc (length xs) = omega arith in
-    put_cons count x (xs ++ ys) words
-    ∙ put_append (suc count) xs ys (set words count x)
-    ∙ ap₂ (λ n ws. put_of n ys ws) e (sym (put_cons count x xs words))
-
--- the words that come after others are put down from their number on
-pub put_more : (count : ℕ) (xs ys words : List (List ℕ))
-    → length words ≡ 7
-    → put_of (count_of count xs) ys (put_of count xs words) ≡ put_of count (xs ++ ys) words
-put_more count xs ys words e = go (cases_lt (count + length xs) 7) ∙ sym (put_append count xs ys words)
+-- as many words as there is room for, in two steps
+pub take_append : (n : ℕ) (xs ys : List (List ℕ)) → take n (take n xs ++ ys) ≡ take n (xs ++ ys)
+take_append n xs ys = go (cases_lt (length xs) n)
   where
-    long : length (put_of count xs words) ≡ 7
-    long = put_length count xs words ∙ e
-
-    go : (count + length xs < 7) ⊎ (7 ≤ count + length xs)
-        → put_of (count_of count xs) ys (put_of count xs words) ≡ put_of (count + length xs) ys (put_of count xs words)
-    go (inl h) =
-        let c : count_of count xs ≡ count + length xs = omega arith in ap (λ n. put_of n ys (put_of count xs words)) c
+    go : (length xs < n) ⊎ (n ≤ length xs) → take n (take n xs ++ ys) ≡ take n (xs ++ ys)
+    go (inl h) = ap (λ zs. take n (zs ++ ys)) (take_all n xs (omega arith))
     go (inr h) =
-        put_past (count_of count xs) ys (put_of count xs words) (omega (arith, long))
-        ∙ sym (put_past (count + length xs) ys (put_of count xs words) (omega (arith, long)))
+        let e : length (take n xs) ≡ n = length-take-le n xs h in
+        take-append-le n (take n xs) ys (omega arith)
+        ∙ take_all n (take n xs) (omega arith)
+        ∙ sym (take-append-le n xs ys h)
 
-pub count_more : (count : ℕ) (xs ys : List (List ℕ)) → count_of (count_of count xs) ys ≡ count_of count (xs ++ ys)
-count_more count xs ys =
-    let e : length (xs ++ ys) ≡ length xs + length ys = length-append xs ys in omega arith
+pub put_room : (now next : List (List ℕ)) (w : List ℕ) → length now < 7 → next ≡ now ++ w ∷ [] → next ≡ take 7 (now ++ w ∷ [])
+put_room now next w h e =
+    let l : length (now ++ w ∷ []) ≡ length now + 1 = length_push now w in
+    e ∙ sym (take_all 7 (now ++ w ∷ []) (omega arith))
 
--- the words of the lists below i are put down and counted
-abbrev pub Stands : ℕ → (ℕ → List (List ℕ)) → List (List ℕ) → ℕ → ℕ → List (List ℕ) → Type 0
-Stands count f words i found after =
-    (found ≡ count_of count (joined f i)) × (after ≡ put_of count (joined f i) words)
+pub put_full : (now : List (List ℕ)) (w : List ℕ) → length now ≡ 7 → now ≡ take 7 (now ++ w ∷ [])
+put_full now w h =
+    sym (take_all 7 now (omega arith)) ∙ sym (take-append-le 7 now (w ∷ []) (omega arith))
 
-module _ (count : ℕ) (f : ℕ → List (List ℕ)) (words : List (List ℕ)) where
-  pub stands_none : Stands count f words 0 count words
-  stands_none =
-      let e : count ≡ count_of count [] = omega arith in
-      (e ∙ ap (count_of count) (sym (joined_zero f)), sym (put_nil count words) ∙ ap (λ ws. put_of count ws words) (sym (joined_zero f)))
+-- the words of the lists below i come after those before, as far as there is room
+unfoldable pub Standing : (ℕ → List (List ℕ)) → List (List ℕ) → ℕ → List (List ℕ) → Type 0
+Standing f was i now = now ≡ take 7 (was ++ joined f i)
 
-  module _ (long : length words ≡ 7) (i found : ℕ) (now : List (List ℕ)) (s : Stands count f words i found now) where
-    next : joined f i ++ f i ≡ joined f (i + 1)
-    next = let up : suc i ≡ i + 1 = omega arith in sym (joined_suc f i) ∙ ap (joined f) up
+module _ (f : ℕ → List (List ℕ)) (was : List (List ℕ)) where
+  pub standing_none : length was ≤ 7 → Standing f was 0 was
+  unfolding Standing
+  standing_none h =
+      sym (take_all 7 was h) ∙ ap (take 7) (sym (append-nil was)) ∙ ap (λ ws. take 7 (was ++ ws)) (sym (joined_zero f))
 
-    -- the words of the next list are put down, with the results r and after
-    pub stands_more : (ys : List (List ℕ)) (found' r : ℕ) (now' after : List (List ℕ))
-        → f i ≡ ys
-        → found' ≡ r
-        → r ≡ count_of found ys
-        → now' ≡ after
-        → after ≡ put_of found ys now
-        → Stands count f words (i + 1) found' now'
-    stands_more ys found' r now' after e a c b d = (
-      a
-          ∙ c
-          ∙ ap₂ count_of s.0 (sym e)
-          ∙ count_more count (joined f i) (f i)
-          ∙ ap (count_of count) next,
-      b
-          ∙ d
-          ∙ ap₂ (λ n ws. put_of n ys ws) s.0 s.1
-          ∙ ap (λ zs. put_of (count_of count (joined f i)) zs (put_of count (joined f i) words)) (sym e)
-          ∙ put_more count (joined f i) (f i) words long
-          ∙ ap (λ ws. put_of count ws words) next,
-    )
+  -- there are no more words than there is room for
+  pub standing_few : (i : ℕ) (now : List (List ℕ)) → Standing f was i now → length now ≤ 7
+  unfolding Standing
+  standing_few i now s =
+      let e : length (take 7 (was ++ joined f i)) ≡ min 7 (length (was ++ joined f i)) = length-take 7 (was ++ joined f i) in
+      let k : length now ≡ length (take 7 (was ++ joined f i)) = ap length s in
+      omega arith
 
-    -- the next list has no word
-    pub stands_skip : (found' : ℕ) (now' : List (List ℕ))
-        → f i ≡ []
-        → found' ≡ found
-        → now' ≡ now
-        → Stands count f words (i + 1) found' now'
-    stands_skip found' now' e a b =
-        let n : found ≡ count_of found [] = omega arith in
-        stands_more [] found' found now' now e a n b (sym (put_nil found now))
+  -- the words of the next list
+  pub standing_more : (i : ℕ) (now ys next : List (List ℕ))
+      → Standing f was i now
+      → f i ≡ ys
+      → next ≡ take 7 (now ++ ys)
+      → Standing f was (i + 1) next
+  unfolding Standing
+  standing_more i now ys next s e k =
+      let up : suc i ≡ i + 1 = omega arith in
+      k
+      ∙ ap (λ ws. take 7 (ws ++ ys)) s
+      ∙ take_append 7 (was ++ joined f i) ys
+      ∙ ap (take 7) (append_assoc was (joined f i) ys)
+      ∙ ap (λ ws. take 7 (was ++ ws)) (ap (λ ws. joined f i ++ ws) (sym e) ∙ sym (joined_suc f i) ∙ ap (joined f) up)
 
-    -- the next list is one word
-    pub stands_put : (w : List ℕ) (found' r : ℕ) (now' after : List (List ℕ))
-        → f i ≡ w ∷ []
-        → found' ≡ r
-        → r ≡ cond (ltb found 7) (found + 1) found
-        → now' ≡ after
-        → after ≡ cond (ltb found 7) (set now found w) now
-        → Stands count f words (i + 1) found' now'
-    stands_put w found' r now' after e a c b d =
-        stands_more
-        (w ∷ [])
-        found'
-        r
-        now'
-        after
-        e
-        a
-        (c ∙ counted (cases_lt found 7))
-        b
-        (d ∙ placed (cases_lt found 7) ∙ sym (put_nil (suc found) (set now found w)) ∙ sym (put_cons found w [] now))
-      where
-        counted : (found < 7) ⊎ (7 ≤ found) → cond (ltb found 7) (found + 1) found ≡ count_of found (w ∷ [])
-        counted (inl h) =
-            let n : found + 1 ≡ count_of found (w ∷ []) = omega arith in
-            cond-true (ltb found 7) (found + 1) found (lt-ltb found 7 h) ∙ n
-        counted (inr h) =
-            let n : found ≡ count_of found (w ∷ []) = omega arith in
-            cond-false (ltb found 7) (found + 1) found (le-ltb found 7 h) ∙ n
-
-        full : length now ≡ 7
-        full = ap length s.1 ∙ put_length count (joined f i) words ∙ long
-
-        placed : (found < 7) ⊎ (7 ≤ found) → cond (ltb found 7) (set now found w) now ≡ set now found w
-        placed (inl h) = cond-true (ltb found 7) (set now found w) now (lt-ltb found 7 h)
-        placed (inr h) =
-            cond-false (ltb found 7) (set now found w) now (le-ltb found 7 h)
-            ∙ sym (set_past now found w (omega (arith, full)))
+  -- the next list has no word
+  pub standing_skip : (i : ℕ) (now next : List (List ℕ)) → Standing f was i now → f i ≡ [] → next ≡ now → Standing f was (i + 1) next
+  standing_skip i now next s e k =
+      standing_more i now [] next s e (k ∙ sym (take_all 7 now (standing_few i now s)) ∙ ap (take 7) (sym (append-nil now)))
 
 -- the roots that begin with g, as a turn of the search finds them
 module _ (m : Meaning) (l bound degree : ℕ) (chosen : List ℕ) (depth : ℕ) (q : List (List ℕ)) (g : ℕ) where
@@ -262,12 +202,13 @@ module _ (m : Meaning) (l bound degree : ℕ) (chosen : List ℕ) (depth : ℕ) 
       ∙ cond-false _ (below (degree - 1)) [] (ne_eqb (column_value_of m g l q 0) 0 (λ k. z (v ∙ k)))
 
 -- the whole search
-pub stands_all : (m : Meaning) (l bound degree : ℕ) (chosen : List ℕ) (depth : ℕ) (q stripped : List (List ℕ)) (count i found : ℕ) (words now : List (List ℕ))
+pub standing_all : (m : Meaning) (l bound degree : ℕ) (chosen : List ℕ) (depth : ℕ) (q stripped : List (List ℕ)) (i : ℕ) (was now : List (List ℕ))
     → stripped ≡ stripped_of l bound q
     → i ≡ m.size
-    → Stands count (branch_of m l bound degree chosen depth stripped) words i found now
-    → (found ≡ count_of count (roots_of m l bound degree chosen depth q)) × (now ≡ put_of count (roots_of m l bound degree chosen depth q) words)
-stands_all m l bound degree chosen depth q stripped count i found words now e z s =
+    → Standing (branch_of m l bound degree chosen depth stripped) was i now
+    → now ≡ take 7 (was ++ roots_of m l bound degree chosen depth q)
+unfolding Standing
+standing_all m l bound degree chosen depth q stripped i was now e z s =
     let w : joined (branch_of m l bound degree chosen depth stripped) i ≡ roots_of m l bound degree chosen depth q
     = ap₂ (λ p n. joined (branch_of m l bound degree chosen depth p) n) e z ∙ sym (roots_branches m l bound degree chosen depth q) in
-    (s.0 ∙ ap (count_of count) w, s.1 ∙ ap (λ ws. put_of count ws words) w)
+    s ∙ ap (λ ws. take 7 (was ++ ws)) w

@@ -1,34 +1,7 @@
--- Words of coefficients: where they are put down, and what is read from them.
-use Rattle.std.proofs.Common.{◌≡◌, ℕ, zero, suc, ◌+◌, ◌<◌, ◌≤◌, ◌≢◌, List, [], ◌∷◌, ◌++◌, length, get_or, take, set, sym, ap, ◌∙◌, ap₂, arith, length-set}
-use Rattle.std.proofs.lemmas.List.{append-nil, append_assoc, get_or-set_same, get_or-set_other, take_more_set, length-replicate}
-use Rattle.roots.specs.Search.{put_of, zero_word}
-use Rattle.roots.proofs.Numbers.{put_nil, put_cons}
-
--- what stands before the words that are put down is as it was
-pub put_before : (count : ℕ) (ws words : List (List ℕ)) (i : ℕ) → i < count → get_or (put_of count ws words) i [] ≡ get_or words i []
-put_before count [] words i h = ap (λ xs. get_or xs i []) (put_nil count words)
-put_before count (w ∷ ws) words i h =
-    let ne : i ≢ count = omega arith in
-    ap (λ xs. get_or xs i []) (put_cons count w ws words)
-    ∙ put_before (suc count) ws (set words count w) i (omega arith)
-    ∙ get_or-set_other words count i w [] ne
-
--- where there is room, each word stands at its number
-pub put_at : (count : ℕ) (ws words : List (List ℕ)) (i : ℕ)
-    → count + length ws ≤ length words
-    → i < length ws
-    → get_or (put_of count ws words) (count + i) [] ≡ get_or ws i []
-put_at count [] words i h k = absurd (omega arith)
-put_at count (w ∷ ws) words zero h k =
-    let e : count + 0 ≡ count = omega arith in
-    ap₂ (λ xs j. get_or xs j []) (put_cons count w ws words) e
-    ∙ put_before (suc count) ws (set words count w) count (omega arith)
-    ∙ get_or-set_same words count w [] (omega arith)
-put_at count (w ∷ ws) words (suc i) h k =
-    let e : count + suc i ≡ suc count + i = omega arith in
-    let n : length (set words count w) ≡ length words = length-set words count w in
-    ap₂ (λ xs j. get_or xs j []) (put_cons count w ws words) e
-    ∙ put_at (suc count) ws (set words count w) i (omega arith) (omega arith)
+-- Words of coefficients, and what is read from them.
+use Rattle.std.proofs.Common.{◌≡◌, ℕ, suc, ◌+◌, ◌≤◌, List, [], ◌∷◌, ◌++◌, length, take, set, sym, ap, ◌∙◌, arith, length-set}
+use Rattle.std.proofs.lemmas.List.{append-nil, append_assoc, take_more_set, length-replicate}
+use Rattle.roots.specs.Search.{zero_word}
 
 -- the coefficients xs written into a word from place depth on
 abbrev pub placed : List ℕ → ℕ → List ℕ → List ℕ

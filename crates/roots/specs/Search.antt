@@ -1,5 +1,5 @@
 -- The search for roots over numbers, level by level.
-use Rattle.std.specs.Prelude.{◌≡◌, ℕ, zero, suc, ◌+◌, min, max, cond, List, [], ◌∷◌, ◌++◌, length, replicate, ◌==◌, slice_set}
+use Rattle.std.specs.Prelude.{ℕ, zero, suc, min, cond, List, [], ◌∷◌, ◌++◌, replicate, ◌==◌, slice_set}
 use Rattle.field.specs.Meaning.{Meaning}
 use Rattle.bivariate.specs.Roots.{column, all_zero, lower_of, column_value_of, shifted_of}
 
@@ -26,21 +26,6 @@ roots_of m l bound (suc s) chosen depth q =
     [])
     m.size
 
--- the array with the words put down one after the other from number count on, as far as there is room
-unfoldable pub put_of : ℕ → List (List ℕ) → List (List ℕ) → List (List ℕ)
-put_of count [] words = words
-put_of count (w ∷ ws) words = put_of (suc count) ws (slice_set words count w)
-
--- how many words there are when those are put down after count others: no more than there is room for, which is 7
-abbrev pub count_of : ℕ → List (List ℕ) → ℕ
-count_of count ws = max count (min 7 (count + length ws))
-
 -- 64 zeros
 abbrev pub zero_word : List ℕ
 zero_word = replicate 64 0
-
--- the roots of degree at most degree are put down in the array from its start on, as far as there is room, and the answer is how many were
-abbrev pub Computes : Meaning → List (List ℕ) → ℕ → ℕ → ℕ → List (List ℕ) → List (List ℕ) → ℕ → Type 0
-Computes m q l bound degree words after count =
-    (count ≡ min 7 (length (roots_of m l bound degree zero_word 0 q)))
-    × (after ≡ put_of 0 (roots_of m l bound degree zero_word 0 q) words)

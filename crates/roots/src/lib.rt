@@ -4,4 +4,4 @@
 
 pub mod search;
 
-pub use search::roots;
+pub use search::{Roots, Word, roots};

@@ -1,18 +1,28 @@
 // The search, one coefficient a level.
-ghost use Rattle.std.specs.Prelude.{◌≡◌, ◌+◌, ◌^◌, ◌<◌, if◌then◌else◌, nat_lt, slice_set};
-ghost use Rattle.roots.specs.Search.{stripped_of, put_of, count_of, roots_of, Computes};
+ghost use Rattle.std.specs.Prelude.{◌≡◌, ◌+◌, ◌^◌, ◌<◌, ◌≤◌, [], ◌∷◌, ◌++◌, length, take, slice_set};
+ghost use Rattle.arrayvec.specs.ArrayVec.{array_vec_len};
+ghost use Rattle.roots.specs.Search.{stripped_of, roots_of, zero_word};
 ghost use Rattle.roots.specs.Found.{Finds};
 
+use arrayvec::ArrayVec;
 use bivariate::roots::{lower, starts_with_zeros, value_at_zero, vanishes_at};
 use bivariate::shifts::shifted;
+use bivariate::{Bounds, Polynomial};
 use field::Field;
 
-// Divides the polynomial by x as long as x divides it, at most so many times.
-fn strip(q: &mut [[u16; 256]; 8], l: usize, most: usize)
-    ensures { q.new ≡ stripped_of l most q.old }
+// Coefficients of a polynomial in x, lowest first.
+pub type Word = [u16; 64];
+
+// The roots of an interpolation polynomial, which has fewer than eight.
+pub type Roots = ArrayVec<Word, 7>;
+
+// Divides the polynomial by x as long as x divides it, at most as many times as the bound says.
+#[tactic(auto, using(crate::proofs::Numbers::stripping_none, crate::proofs::Numbers::stripping_more, crate::proofs::Numbers::stripping_stop, crate::proofs::Numbers::stripping_all))]
+fn strip(q: &mut Polynomial, bounds: Bounds)
+    ensures { q.new ≡ stripped_of bounds.l bounds.bound q.old }
 {
-    for _i in 0..most {
-        if !starts_with_zeros(q, l) {
+    for _i in 0..bounds.bound {
+        if !starts_with_zeros(q, bounds) {
             return;
         }
         lower(q);
@@ -20,7 +30,7 @@ fn strip(q: &mut [[u16; 256]; 8], l: usize, most: usize)
 }
 
 // The word with g at a place.
-fn with(word: &[u16; 64], place: usize, g: u16) -> [u16; 64]
+fn with(word: &Word, place: usize, g: u16) -> Word
     ensures { result ≡ slice_set word.now place g }
 {
     let mut result = *word;
@@ -30,88 +40,73 @@ fn with(word: &[u16; 64], place: usize, g: u16) -> [u16; 64]
     result
 }
 
-// Puts the word down as number count, where there is room, and answers how many there are.
-fn put(words: &mut [[u16; 64]; 7], count: usize, word: [u16; 64]) -> usize
-    ensures answer { result ≡ (if nat_lt count 7 then count + 1 else count) }
-    ensures written { words.new ≡ (if nat_lt count 7 then slice_set words.old count word else words.old) }
+// Puts the word after the others, where there is room.
+#[tactic(auto, using(crate::proofs::Numbers::put_room, crate::proofs::Numbers::put_full))]
+fn put(words: &mut Roots, word: Word)
+    ensures { words.new.items ≡ take 7 (words.old.items ++ word ∷ []) }
 {
-    if count < 7 {
-        words[count] = word;
-        return count + 1;
+    if !words.is_full() {
+        words.push(word);
     }
-    count
 }
 
-// The roots of q of degree at most degree, each put down after the coefficients chosen before it. The polynomial is divided
-// by x where it stands, so that a frame of the recursion holds one polynomial, the next. What is required keeps depth + 1
-// from wrapping, and holds at depth 0 for every degree.
+// Puts the roots of q of degree at most the weight after those found, each after the coefficients chosen before it, as far
+// as there is room. The polynomial is divided by x where it stands, so that a frame of the recursion holds one polynomial,
+// the next. What is required keeps depth + 1 from wrapping, and holds at depth 0 for every degree.
+#[tactic(auto, using(crate::proofs::Numbers::standing_none, crate::proofs::Numbers::standing_few, crate::proofs::Numbers::standing_all))]
 fn descend<F: Field>(
     field: &F,
-    q: &mut [[u16; 256]; 8],
-    l: usize,
-    bound: usize,
-    degree: usize,
-    chosen: &[u16; 64],
+    q: &mut Polynomial,
+    bounds: Bounds,
+    chosen: &Word,
     depth: usize,
-    words: &mut [[u16; 64]; 7],
-    count: usize,
-) -> usize
-    requires { depth + degree < 2 ^ 64 }
-    ensures answer { result ≡ count_of count (roots_of (F.meaning field.now) l bound degree chosen.now depth q.old) }
-    ensures written { words.new ≡ put_of count (roots_of (F.meaning field.now) l bound degree chosen.now depth q.old) words.old }
-    ensures divided { q.new ≡ stripped_of l bound q.old }
+    found: &mut Roots,
+)
+    requires depth { depth + bounds.weight < 2 ^ 64 }
+    requires few { array_vec_len found.old ≤ 7 }
+    ensures found { found.new.items ≡ take 7 (found.old.items ++ roots_of (F.meaning field.now) bounds.l bounds.bound bounds.weight chosen.now depth q.old) }
+    ensures divided { q.new ≡ stripped_of bounds.l bounds.bound q.old }
 {
-    strip(q, l, bound);
-    let mut found = count;
+    strip(q, bounds);
     for g in 0..field.size() {
-        if degree == 0 {
-            if vanishes_at(field, q, l, g, bound) {
-                found = put(words, found, with(chosen, depth, g));
+        if bounds.weight == 0 {
+            if vanishes_at(field, q, bounds, g) {
+                put(found, with(chosen, depth, g));
             }
-        } else if value_at_zero(field, q, l, g) == 0 {
-            let mut next = shifted(field, q, l, bound, degree, g);
-            found = descend(
+        } else if value_at_zero(field, q, bounds, g) == 0 {
+            let mut next = shifted(field, q, bounds, g);
+            let rest = Bounds {
+                weight: bounds.weight - 1,
+                ..bounds
+            };
+            descend(
                 field,
                 &mut next,
-                l,
-                bound,
-                degree - 1,
+                rest,
                 &with(chosen, depth, g),
                 depth + 1,
-                words,
                 found,
             );
         }
     }
+}
+
+// The roots with no coefficient chosen before.
+fn start<F: Field>(field: &F, q: &Polynomial, bounds: Bounds) -> Roots
+    ensures { result.items ≡ take 7 (roots_of (F.meaning field.now) bounds.l bounds.bound bounds.weight zero_word 0 q.now) }
+{
+    let mut divided = *q;
+    let mut found = Roots::new();
+    descend(field, &mut divided, bounds, &[0; 64], 0, &mut found);
     found
 }
 
-// The same with no coefficient chosen before and no word put down.
-fn start<F: Field>(
-    field: &F,
-    q: &[[u16; 256]; 8],
-    l: usize,
-    bound: usize,
-    degree: usize,
-    words: &mut [[u16; 64]; 7],
-) -> usize
-    ensures { Computes (F.meaning field.now) q.now l bound degree words.old words.new result }
+// The roots f(x) of q in y of degree at most the weight, as words of coefficients, lowest first. Q has rows and coefficients
+// within the bounds; where there are more roots than words, the first are answered.
+#[tactic(auto, using(crate::proofs::Finding::found_all))]
+pub fn roots<F: Field>(field: &F, q: &Polynomial, bounds: Bounds) -> Roots
+    ensures computed { result.items ≡ take 7 (roots_of (F.meaning field.now) bounds.l bounds.bound bounds.weight zero_word 0 q.now) }
+    ensures found { Finds (F.meaning field.now) q.now bounds.l bounds.bound bounds.weight result.items (array_vec_len result) }
 {
-    let mut divided = *q;
-    descend(field, &mut divided, l, bound, degree, &[0; 64], 0, words, 0)
-}
-
-// The roots f(x) of q in y of degree at most degree, as words of coefficients, lowest first.
-pub fn roots<F: Field>(
-    field: &F,
-    q: &[[u16; 256]; 8],
-    l: usize,
-    bound: usize,
-    degree: usize,
-    words: &mut [[u16; 64]; 7],
-) -> usize
-    ensures computed { Computes (F.meaning field.now) q.now l bound degree words.old words.new result }
-    ensures found { Finds (F.meaning field.now) q.now l bound degree words.new result }
-{
-    start(field, q, l, bound, degree, words)
+    start(field, q, bounds)
 }
