@@ -20,10 +20,15 @@ use crate::{Field, FieldFault};
 const MODULI: [u16; 7] = [7, 11, 19, 37, 67, 131, 285];
 
 // The number as a degree, if it is one of 2 to 8.
-fn degree_of(m: usize) -> Option<u8>
-    ensures { MatchOption result (Judged refusal_of (BinaryFails m) (Some Degree)) (λ d. (d ≡ m) × Judged refusal_of (BinaryFails m) None × (2 ≤ d) × (d ≤ 8)) }
+fn degree_of(m: usize) -> Result<u8, FieldFault>
+    ensures judged { Judged refusal_of (BinaryFails m) (result_err result) }
+    ensures found { IfOk result (λ d. (d ≡ m) × (2 ≤ d) × (d ≤ 8)) }
 {
-    if m < 2 || m > 8 { None } else { Some(m as u8) }
+    if m < 2 || m > 8 {
+        Err(FieldFault::Degree)
+    } else {
+        Ok(m as u8)
+    }
 }
 
 // Twice a, that is a times x, reduced once.
@@ -60,9 +65,7 @@ impl BinaryField {
         ensures judged { Judged refusal_of (BinaryFails m) (result_err result) }
         ensures made { IfOk result (λ f. (f.m ≡ m) × (f.all ≡ all)) }
     {
-        let Some(m) = degree_of(m) else {
-            return Err(FieldFault::Degree);
-        };
+        let m = degree_of(m)?;
         Ok(BinaryField {
             m,
             polynomial: MODULI[usize::from(m) - 2],

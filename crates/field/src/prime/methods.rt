@@ -1,5 +1,5 @@
 // How a prime field is made, and what it answers.
-ghost use Rattle.std.specs.Prelude.{◌≡◌, ℕ, ◌*◌, ◌%◌, ◌<◌, ◌≤◌, IfOk, Some, None, MatchOption};
+ghost use Rattle.std.specs.Prelude.{◌≡◌, ℕ, ◌*◌, ◌%◌, ◌<◌, ◌≤◌, IfOk, ◌==◌, find};
 ghost use Rattle.std.specs.Result.{result_err};
 ghost use Rattle.fault.specs.First.{Judged};
 ghost use Rattle.field.specs.Faults.{refusal_of, PrimeFails};
@@ -23,15 +23,18 @@ const PRIMES: [u8; 53] = [
 ];
 
 // The entry of the table that equals p.
-fn entry(p: usize) -> Option<u8>
-    ensures { MatchOption result (Judged refusal_of (PrimeFails p) (Some Characteristic)) (λ q. (q ≡ p) × Judged refusal_of (PrimeFails p) None × (3 ≤ q) × (q ≤ 251) × Prime q) }
+fn listed(p: usize) -> Option<u8>
+    ensures { result ≡ find (λ q. q == p) PRIMES }
 {
-    for q in PRIMES {
-        if usize::from(q) == p {
-            return Some(q);
-        }
-    }
-    None
+    PRIMES.iter().copied().find(|&q| usize::from(q) == p)
+}
+
+// The same, or a refusal: the table holds the primes of 3 to 251 and no other number.
+fn entry(p: usize) -> Result<u8, FieldFault>
+    ensures judged { Judged refusal_of (PrimeFails p) (result_err result) }
+    ensures found { IfOk result (λ q. (q ≡ p) × (3 ≤ q) × (q ≤ 251) × Prime q) }
+{
+    listed(p).ok_or(FieldFault::Characteristic)
 }
 
 // The remainder of a number below 2p, with no division.
@@ -48,10 +51,7 @@ impl PrimeField {
         ensures judged { Judged refusal_of (PrimeFails p) (result_err result) }
         ensures made { IfOk result (λ f. f.p ≡ p) }
     {
-        match entry(p) {
-            Some(p) => Ok(PrimeField { p }),
-            None => Err(FieldFault::Characteristic),
-        }
+        Ok(PrimeField { p: entry(p)? })
     }
 
     // The prime, which has no divisor from 2 to p − 1.
