@@ -1,3 +1,4 @@
 pub mod Gathered
 pub mod Interleaved
 pub mod Judging
+pub mod Squaring

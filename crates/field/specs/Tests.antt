@@ -1,5 +1,5 @@
 -- Tests that the checker computes over all numbers below a bound or all entries of a table, and what they show.
-use Rattle.std.specs.Prelude.{◌≡◌, ℕ, zero, suc, ◌<◌, Bool, true, false, not, cond, T, ◌⊎◌, List, [], ◌∷◌, ◌==◌, ◌≢◌, Some, None, Option, MatchOption, find}
+use Rattle.std.specs.Prelude.{◌≡◌, ℕ, zero, suc, ◌<◌, Bool, true, false, not, cond, T, ◌⊎◌, List, [], ◌∷◌, ◌==◌, ◌≢◌, Some, MatchOption, find}
 use Rattle.std.proofs.Common.{sym, subst, inl, inr, not-suc-le-zero, arith, eqb→eq}
 use Rattle.std.proofs.Math.Decide.{ℕ_discrete}
 use Rattle.std.proofs.Math.Dec.{eqb_refl}

@@ -11,9 +11,8 @@ ghost use Rattle.field.specs.PowersLemmas.{power_closed};
 ghost use Rattle.field.specs.ModularLaws as modulo;
 ghost use Rattle.field.specs.PrimeTable.{prime_listed, listed_inverse};
 
-use crate::power::{Product, raise};
 use crate::prime::PrimeField;
-use crate::{Field, FieldFault};
+use crate::{Field, FieldFault, power};
 
 // The odd primes below 256.
 const PRIMES: [u8; 53] = [
@@ -60,14 +59,6 @@ impl PrimeField {
         ensures prime { Prime result }
     {
         u16::from(self.p)
-    }
-}
-
-impl Product for PrimeField {
-    ghost times = { λ f. times_modulo f.p };
-
-    fn times(&self, a: u16, b: u16) -> u16 {
-        (u32::from(a) * u32::from(b) % u32::from(self.characteristic())) as u16
     }
 }
 
@@ -122,15 +113,14 @@ impl Field for PrimeField {
 
     fn product(&self, a: u16, b: u16) -> u16 {
         let p = self.characteristic();
-        if a < p && b < p { self.times(a, b) } else { 0 }
+        if a < p && b < p {
+            (u32::from(a) * u32::from(b) % u32::from(p)) as u16
+        } else {
+            0
+        }
     }
 
     fn inverse(&self, a: u16) -> Option<u16> {
-        let p = self.characteristic();
-        if 0 < a && a < p {
-            Some(raise(self, a, p - 2))
-        } else {
-            None
-        }
+        power::inverse(self.size(), |x, y| self.product(x, y), a)
     }
 }
