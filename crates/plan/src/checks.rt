@@ -2,22 +2,13 @@
 // refusal changes nothing, and in the order of the faults, so that the first one is named.
 ghost use Rattle.std.specs.Prelude.{◌<◌, ◌≤◌, length, Decides};
 ghost use Rattle.std.specs.Result.{result_err};
-ghost use Rattle.fault.specs.First.{First, Judged};
+ghost use Rattle.fault.specs.First.{Judged};
 ghost use Rattle.plan.specs.Numbers.{Solvable};
-ghost use Rattle.plan.specs.Faults.{refusal_of, BadDistance, BadWidth, SeenBefore, BadSupport, BadMultiplier, Fails};
+ghost use Rattle.plan.specs.Faults.{refusal_of, BadDistance, BadWidth, BadSupport, BadMultiplier, Fails};
 ghost use Rattle.plan.specs.Checks.{FirstBad};
 ghost use Rattle.plan.specs.declared.asked.PlanFault.TheVariants.{Shape};
 
-use crate::{Parameters, PlanFault};
-
-// The longest word for which a plan has room.
-const MAX_N: usize = 64;
-// The size of the largest field.
-const MAX_SIZE: usize = 256;
-// The greatest multiplicity.
-const MAX_K: usize = 4;
-// The greatest width.
-const MAX_L: usize = 8;
+use crate::{MAX_K, MAX_L, MAX_N, MAX_SIZE, Parameters, PlanFault};
 
 fn bad_shape(asked: Parameters, support: &[u16], multipliers: &[u16]) -> bool
     ensures { Decides result (Fails asked support.now multipliers.now Shape) }
@@ -54,84 +45,28 @@ fn solvable(n: usize, t: usize, w: usize, k: usize, l: usize) -> bool
     equations + missing < l * (k * (n - w))
 }
 
-fn seen_before(support: &[u16], i: usize) -> bool
-    requires { i < length support.now }
-    ensures { Decides result (SeenBefore support.now i) }
-{
-    let element = support[i];
-    for j in 0..i {
-        if support[j] == element {
-            return true;
-        }
-    }
-    false
-}
-
 fn bad_support(support: &[u16], size: usize, i: usize) -> bool
     requires { i < length support.now }
     ensures { Decides result (BadSupport size support.now i) }
 {
-    support[i] as usize >= size || seen_before(support, i)
+    usize::from(support[i]) >= size || support[..i].contains(&support[i])
 }
 
 fn first_bad_support(support: &[u16], size: usize) -> Option<usize>
     ensures { FirstBad (BadSupport size support.now) (length support.now) result }
 {
-    for i in 0..support.len() {
-        if bad_support(support, size, i) {
-            return Some(i);
-        }
-    }
-    None
-}
-
-fn bad_multiplier(multipliers: &[u16], size: usize, i: usize) -> bool
-    requires { i < length multipliers.now }
-    ensures { Decides result (BadMultiplier size multipliers.now i) }
-{
-    multipliers[i] == 0 || multipliers[i] as usize >= size
+    (0..support.len()).find(|&i| bad_support(support, size, i))
 }
 
 fn first_bad_multiplier(multipliers: &[u16], size: usize) -> Option<usize>
     ensures { FirstBad (BadMultiplier size multipliers.now) (length multipliers.now) result }
 {
-    for i in 0..multipliers.len() {
-        if bad_multiplier(multipliers, size, i) {
-            return Some(i);
-        }
-    }
-    None
+    multipliers
+        .iter()
+        .position(|&b| b == 0 || usize::from(b) >= size)
 }
 
-// The first fault of what is asked for, if there is one.
-fn first_fault(asked: Parameters, support: &[u16], multipliers: &[u16]) -> Option<PlanFault>
-    ensures { First refusal_of (Fails asked support.now multipliers.now) result }
-{
-    if bad_shape(asked, support, multipliers) {
-        return Some(PlanFault::Shape);
-    }
-    if bad_distance(asked.n, asked.t) {
-        return Some(PlanFault::Distance);
-    }
-    if asked.w >= asked.n {
-        return Some(PlanFault::Errors);
-    }
-    if bad_width(asked.k, asked.l) {
-        return Some(PlanFault::Width);
-    }
-    if !solvable(asked.n, asked.t, asked.w, asked.k, asked.l) {
-        return Some(PlanFault::Inequality);
-    }
-    if let Some(i) = first_bad_support(support, asked.size) {
-        return Some(PlanFault::Support(i));
-    }
-    if let Some(i) = first_bad_multiplier(multipliers, asked.size) {
-        return Some(PlanFault::Multiplier(i));
-    }
-    None
-}
-
-// Refuses for the first fault, and for nothing else.
+// Refuses for the first fault of what is asked for, and for nothing else.
 pub(crate) fn judge(
     asked: Parameters,
     support: &[u16],
@@ -139,8 +74,26 @@ pub(crate) fn judge(
 ) -> Result<(), PlanFault>
     ensures { Judged refusal_of (Fails asked support.now multipliers.now) (result_err result) }
 {
-    match first_fault(asked, support, multipliers) {
-        Some(fault) => Err(fault),
-        None => Ok(()),
+    if bad_shape(asked, support, multipliers) {
+        return Err(PlanFault::Shape);
     }
+    if bad_distance(asked.n, asked.t) {
+        return Err(PlanFault::Distance);
+    }
+    if asked.w >= asked.n {
+        return Err(PlanFault::Errors);
+    }
+    if bad_width(asked.k, asked.l) {
+        return Err(PlanFault::Width);
+    }
+    if !solvable(asked.n, asked.t, asked.w, asked.k, asked.l) {
+        return Err(PlanFault::Inequality);
+    }
+    if let Some(i) = first_bad_support(support, asked.size) {
+        return Err(PlanFault::Support(i));
+    }
+    if let Some(i) = first_bad_multiplier(multipliers, asked.size) {
+        return Err(PlanFault::Multiplier(i));
+    }
+    Ok(())
 }
