@@ -10,39 +10,47 @@ ghost use Rattle.plan.specs.declared.asked.PlanFault.TheVariants.{Shape};
 
 use crate::{MAX_K, MAX_L, MAX_N, MAX_SIZE, Parameters, PlanFault};
 
-fn bad_shape(asked: Parameters, support: &[u16], multipliers: &[u16]) -> bool
-    ensures { Decides result (Fails asked support.now multipliers.now Shape) }
-{
-    asked.n < 2
-        || asked.n > MAX_N
-        || asked.size < 2
-        || asked.size > MAX_SIZE
-        || support.len() != asked.n
-        || multipliers.len() != asked.n
-}
+impl Parameters {
+    // There is no room for words of the length or for elements of the field, or a list is of another length.
+    fn bad_shape(self, support: &[u16], multipliers: &[u16]) -> bool
+        ensures { Decides result (Fails self support.now multipliers.now Shape) }
+    {
+        !(2..=MAX_N).contains(&self.n)
+            || !(2..=MAX_SIZE).contains(&self.size)
+            || support.len() != self.n
+            || multipliers.len() != self.n
+    }
 
-fn bad_distance(n: usize, t: usize) -> bool
-    ensures { Decides result (BadDistance n t) }
-{
-    t < 1 || t >= n
-}
+    fn bad_distance(self) -> bool
+        ensures { Decides result (BadDistance self.n self.t) }
+    {
+        !(1..self.n).contains(&self.t)
+    }
 
-fn bad_width(k: usize, l: usize) -> bool
-    ensures { Decides result (BadWidth k l) }
-{
-    k < 1 || k > MAX_K || l <= k || l > MAX_L
-}
+    fn bad_errors(self) -> bool
+        ensures { Decides result (self.n ≤ self.w) }
+    {
+        self.w >= self.n
+    }
 
-// The equations of the interpolation are fewer than its unknowns. What is required keeps the
-// products small: the bounds of the numbers are checked before.
-fn solvable(n: usize, t: usize, w: usize, k: usize, l: usize) -> bool
-    requires word { (n ≤ 64) × ((t < n) × (w < n)) }
-    requires width { (k ≤ 4) × ((1 ≤ l) × (l ≤ 8)) }
-    ensures { Decides result (Solvable n t w k l) }
-{
-    let equations = n * (k * (k + 1) / 2);
-    let missing = (n - t - 1) * (l * (l - 1) / 2);
-    equations + missing < l * (k * (n - w))
+    fn bad_width(self) -> bool
+        ensures { Decides result (BadWidth self.k self.l) }
+    {
+        !(1..=MAX_K).contains(&self.k) || !(self.k + 1..=MAX_L).contains(&self.l)
+    }
+
+    // The equations of the interpolation are fewer than its unknowns. What is required keeps the
+    // products small: the bounds of the numbers are checked before.
+    fn solvable(self) -> bool
+        requires word { (self.n ≤ 64) × ((self.t < self.n) × (self.w < self.n)) }
+        requires width { (self.k ≤ 4) × ((1 ≤ self.l) × (self.l ≤ 8)) }
+        ensures { Decides result (Solvable self.n self.t self.w self.k self.l) }
+    {
+        let Parameters { n, t, w, k, l, .. } = self;
+        let equations = n * (k * (k + 1) / 2);
+        let missing = (n - t - 1) * (l * (l - 1) / 2);
+        equations + missing < l * (k * (n - w))
+    }
 }
 
 fn bad_support(support: &[u16], size: usize, i: usize) -> bool
@@ -74,19 +82,19 @@ pub(crate) fn judge(
 ) -> Result<(), PlanFault>
     ensures { Judged refusal_of (Fails asked support.now multipliers.now) (result_err result) }
 {
-    if bad_shape(asked, support, multipliers) {
+    if asked.bad_shape(support, multipliers) {
         return Err(PlanFault::Shape);
     }
-    if bad_distance(asked.n, asked.t) {
+    if asked.bad_distance() {
         return Err(PlanFault::Distance);
     }
-    if asked.w >= asked.n {
+    if asked.bad_errors() {
         return Err(PlanFault::Errors);
     }
-    if bad_width(asked.k, asked.l) {
+    if asked.bad_width() {
         return Err(PlanFault::Width);
     }
-    if !solvable(asked.n, asked.t, asked.w, asked.k, asked.l) {
+    if !asked.solvable() {
         return Err(PlanFault::Inequality);
     }
     if let Some(i) = first_bad_support(support, asked.size) {

@@ -1,5 +1,5 @@
 -- Each refusal is the first one, and what is first is judged.
-use Rattle.std.proofs.Common.{Some, None, rules}
+use Rattle.std.proofs.Common.{Some, rules}
 use Rattle.plan.specs.declared.asked.PlanFault.TheVariants.{Shape, Distance, Errors, Width, Inequality}
 use Rattle.plan.proofs.Order.{judged, at_support, at_multiplier, at_none}
 use Rattle.plan.proofs.checks.judge.Goals as goal
@@ -10,8 +10,8 @@ returns-then-bad_shape c = judged c.args.asked c.args.support.now c.args.multipl
 pub returns-then-bad_distance : goal.returns-then-bad_distance
 returns-then-bad_distance c = judged c.args.asked c.args.support.now c.args.multipliers.now (Some Distance) (search rules)
 
-pub returns-then-asked : goal.returns-then-asked
-returns-then-asked c = judged c.args.asked c.args.support.now c.args.multipliers.now (Some Errors) (search rules)
+pub returns-then-bad_errors : goal.returns-then-bad_errors
+returns-then-bad_errors c = judged c.args.asked c.args.support.now c.args.multipliers.now (Some Errors) (search rules)
 
 pub returns-then-bad_width : goal.returns-then-bad_width
 returns-then-bad_width c = judged c.args.asked c.args.support.now c.args.multipliers.now (Some Width) (search rules)
