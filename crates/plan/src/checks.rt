@@ -74,7 +74,8 @@ fn first_bad_multiplier(multipliers: &[u16], size: usize) -> Option<usize>
         .position(|&b| b == 0 || usize::from(b) >= size)
 }
 
-// Refuses for the first fault of what is asked for, and for nothing else.
+// Refuses for the first fault of what is asked for, and for nothing else. The numbers and the two
+// lists stay three parameters, as `make` has them: a struct of them, made for this one call, is no plainer.
 pub(crate) fn judge(
     asked: Parameters,
     support: &[u16],
