@@ -5,8 +5,8 @@ ghost use Rattle.poly.specs.Arithmetic.{slope_of, nest_of};
 ghost use Rattle.poly.specs.Newton.{sweep_of, coefficients_of, nested_of};
 ghost use Rattle.poly.specs.Interpolation.{OneThrough};
 
-use crate::arithmetic::{affine, difference, member, quotient};
-use field::Field;
+use crate::arithmetic::{difference, member, quotient};
+use field::{Field, multiply_add};
 
 // The slope from the point (x0, y0) to the point (x, y).
 fn slope<F: Field>(field: &F, x0: u16, y0: u16, x: u16, y: u16) -> u16
@@ -43,7 +43,7 @@ fn nest<F: Field>(field: &F, x0: u16, c: u16, z: u16, v: u16) -> u16
     ensures { result ≡ nest_of (F.meaning field.now) x0 c z v }
 {
     let factor = difference(field, z, x0);
-    affine(field, c, factor, v)
+    multiply_add(field, c, factor, v)
 }
 
 // The value at z of Newton's form with these coefficients at these points, from the last one in.
@@ -51,6 +51,8 @@ pub fn newton_value<F: Field>(field: &F, points: &[u16], coefficients: &[u16], z
     ensures { result ≡ nested_of (F.meaning field.now) points.now coefficients.now z }
 {
     let mut v = 0;
+    // By index: of a fold over `coefficients.iter().enumerate().rev()` the proof did not close, since
+    // nothing says what the places and the coefficients come to together.
     for i in (0..coefficients.len()).rev() {
         v = nest(field, member(points, i), coefficients[i], z, v);
     }
