@@ -51,10 +51,8 @@ pub fn newton_value<F: Field>(field: &F, points: &[u16], coefficients: &[u16], z
     ensures { result ≡ nested_of (F.meaning field.now) points.now coefficients.now z }
 {
     let mut v = 0;
-    // By index: of a fold over `coefficients.iter().enumerate().rev()` the proof did not close, since
-    // nothing says what the places and the coefficients come to together.
-    for i in (0..coefficients.len()).rev() {
-        v = nest(field, member(points, i), coefficients[i], z, v);
+    for (i, &c) in coefficients.iter().enumerate().rev() {
+        v = nest(field, member(points, i), c, z, v);
     }
     v
 }
