@@ -1,5 +1,6 @@
 -- The steps of the loops that work out Newton's form.
-use Rattle.std.proofs.Common.{◌≡◌, ℕ, zero, suc, ◌+◌, ◌-◌, ◌<◌, ◌≤◌, cond, ltb, List, [], ◌∷◌, ◌++◌, append-nil, append_assoc, length, length-append, add-zero, get_or, get_or-append-add, set, sym, refl, ap, ◌∙◌, ap₂, ⊎_elim, add-one, arith}
+use Rattle.std.proofs.Common.{◌≡◌, ℕ, zero, suc, ◌+◌, ◌<◌, ◌≤◌, cond, ltb, List, [], ◌∷◌, ◌++◌, append-nil, append_assoc, length, length-append, get_or, set, sym, refl, ap, ◌∙◌, ap₂, ⊎_elim, add-one, arith}
+use Rattle.std.proofs.Math.Seq.{get_or-append_seam}
 use Rattle.std.proofs.lemmas.Bool.{cases_eq, cond-true, cond-false, lt-ltb, le-ltb}
 use Rattle.field.specs.Meaning.{Meaning, sum_of, product_of}
 use Rattle.poly.specs.Arithmetic.{difference_of, quotient_of, slope_of, nest_of}
@@ -101,7 +102,7 @@ module _ (m : Meaning) (α : List ℕ) where
       longer = length-append rest (c ∷ []) ∙ add-one (length rest)
 
       here : get_or cs (length rest) 0 ≡ c
-      here = ap (λ xs. get_or xs (length rest) 0) whole ∙ ap (λ i. get_or (rest ++ c ∷ w.after) i 0) (sym (add-zero (length rest))) ∙ get_or-append-add rest (c ∷ w.after) 0 0
+      here = ap (λ xs. get_or xs (length rest) 0) whole ∙ get_or-append_seam rest c w.after 0
 
   pub worked_end : (cs : List ℕ) (z : ℕ) (rest : List ℕ) (v : ℕ) → length rest ≡ 0 → Worked cs z rest v → v ≡ nested_of m α cs z
   unfolding nested_of

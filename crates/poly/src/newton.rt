@@ -24,6 +24,7 @@ fn sweep<F: Field>(field: &F, points: &[u16], values: &mut [u16], j: usize)
 {
     let first = values[j];
     let origin = member(points, j);
+    // By index: a place counts in both lists, of which the points may be the shorter.
     for i in j + 1..values.len() {
         values[i] = slope(field, origin, first, member(points, i), values[i]);
     }

@@ -13,13 +13,12 @@ pub loop-i-preserved : goal.loop-i-preserved
 loop-i-preserved g c =
     let m = g.F.Field.meaning c.args.field.now in
     let s = c.in-Some.ensures.steps in
-    let i : c.in-Some.i ≡ length c.next.new.self.iter.iter.rest.now = omega (arith, s.1.1, c.loop-i.invariant.0) in
-    (
+    let i : c.in-Some.i ≡ length c.next.new.self.iter.iter.rest.now = omega (arith, s.1.1, c.loop-i.invariant.0) in (
       s.0 ∙ c.loop-i.invariant.0,
       worked_turn m c.args.points.now c.args.coefficients.now c.args.z _ c.in-Some.field-0-1.now c.loop-i.v c.member.result _
-      (subst (λ xs. Worked m c.args.points.now c.args.coefficients.now c.args.z xs c.loop-i.v) s.1.0 c.loop-i.invariant.1)
-      (c.member.ensures ∙ ap (λ k. get_or c.args.points.now k 0) i)
-      c.nest-v.ensures
+          (subst (λ xs. Worked m c.args.points.now c.args.coefficients.now c.args.z xs c.loop-i.v) s.1.0 c.loop-i.invariant.1)
+          (c.member.ensures ∙ ap (λ k. get_or c.args.points.now k 0) i)
+          c.nest-v.ensures,
     )
 
 pub returns : goal.returns
