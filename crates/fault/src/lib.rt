@@ -2,7 +2,7 @@
 // A refusal is a number, the layer that gives it, and the place at fault (0 where none is named).
 #![tactic(auto)]
 
-ghost use Rattle.std.specs.Prelude.{◌≡◌, codes};
+ghost use Rattle.std.specs.Prelude.{◌≡◌, codes, Some};
 ghost use Rattle.fault.specs.Refusals.{name_of, shown_as};
 
 use std::fmt;
@@ -39,13 +39,18 @@ impl Layer {
     }
 }
 
+impl fmt::Display for Layer {
+    ghost output = { λ x. Some (name_of x) };
+
+    fn fmt<W: fmt::Write>(&self, f: &mut fmt::Formatter<W>) -> fmt::Result {
+        f.write_str(self.name())
+    }
+}
+
 impl fmt::Display for Refusal {
     ghost output = { λ x. shown_as x };
 
     fn fmt<W: fmt::Write>(&self, f: &mut fmt::Formatter<W>) -> fmt::Result {
-        let number = self.number;
-        let layer = self.layer.name();
-        let place = self.place;
-        write!(f, "refused {number} {layer} {place}")
+        write!(f, "refused {} {} {}", self.number, self.layer, self.place)
     }
 }

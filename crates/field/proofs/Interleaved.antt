@@ -93,10 +93,9 @@ bit_leaves b a n =
     sym (ap (λ x. x * a) e ∙ zero-mul a)
 
 -- the invariant of the loop after the turn at i − 1, from the values that the turn leaves
-pub horner_again : (m i a b product twice term modulus : ℕ) → 2 ≤ m → m ≤ 8 → 0 < i → i ≤ m → a < 2 ^ m → modulus ≡ modulus_of m → product < 2 ^ m → product ≡ horner m (m - i) a (b / 2 ^ i) → twice ≡ doubled modulus m product → term ≡ b / 2 ^ (i - 1) % 2 * a → (bit_xor twice term < 2 ^ m) × (bit_xor twice term ≡ horner m (m - (i - 1)) a (b / 2 ^ (i - 1)))
-horner_again m i a b product twice term modulus low high some within ha listed small inv two bit =
+pub horner_again : (m i a b product twice term : ℕ) → 2 ≤ m → m ≤ 8 → 0 < i → i ≤ m → a < 2 ^ m → product < 2 ^ m → product ≡ horner m (m - i) a (b / 2 ^ i) → twice ≡ doubled (modulus_of m) m product → term ≡ b / 2 ^ (i - 1) % 2 * a → (bit_xor twice term < 2 ^ m) × (bit_xor twice term ≡ horner m (m - (i - 1)) a (b / 2 ^ (i - 1)))
+horner_again m i a b product twice term low high some within ha small inv d bit =
     let back : i - 1 + 1 ≡ i = omega arith in
-    let d : twice ≡ doubled (modulus_of m) m product = two ∙ ap (λ x. doubled x m product) listed in
     let term-small : term < 2 ^ m = subst (λ x. x < 2 ^ m) (sym bit) (bit_small (b / 2 ^ (i - 1))) in
     let turned = horner_turn m (i - 1) a b (omega arith) in
     let turned-at = subst (λ j. horner m (m - (i - 1)) a (b / 2 ^ (i - 1)) ≡ bit_xor (doubled (modulus_of m) m (horner m (m - j) a (b / 2 ^ j))) (b / 2 ^ (i - 1) % 2 * a)) back turned in

@@ -11,3 +11,4 @@ pub mod Polynomials
 pub mod PowersLemmas
 pub mod ModularLaws
 pub mod PrimeTable
+pub mod Made

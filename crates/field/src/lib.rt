@@ -5,12 +5,14 @@
 ghost use Rattle.std.specs.Prelude.{◌≡◌, ℕ, ◌<◌, ◌≤◌, ◌≢◌};
 ghost use Rattle.field.specs.Meaning.{Meaning, Element, Letter, sum_of, negative_of, product_of, inverse_of};
 
+pub mod arithmetic;
 pub mod binary;
 pub mod letter;
 mod power;
 pub mod prime;
 pub mod refusal;
 
+pub use arithmetic::multiply_add;
 pub use binary::BinaryField;
 pub use letter::{is_letter, laws_hold, multiply_add};
 pub use prime::PrimeField;

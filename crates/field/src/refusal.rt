@@ -11,11 +11,11 @@ pub enum FieldFault {
     Characteristic,
 }
 
-impl FieldFault {
-    pub fn refusal(self) -> Refusal
-        ensures { result ≡ refusal_of self }
-    {
-        let number = match self {
+impl From<FieldFault> for Refusal {
+    ghost from_gives = { λ fault refusal. refusal ≡ refusal_of fault };
+
+    fn from(fault: FieldFault) -> Refusal {
+        let number = match fault {
             FieldFault::Degree => 1,
             FieldFault::Characteristic => 2,
         };
@@ -24,5 +24,13 @@ impl FieldFault {
             layer: Layer::Field,
             place: 0,
         }
+    }
+}
+
+impl FieldFault {
+    pub fn refusal(self) -> Refusal
+        ensures { result ≡ refusal_of self }
+    {
+        Refusal::from(self)
     }
 }

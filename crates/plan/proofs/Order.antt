@@ -92,15 +92,15 @@ module _ (a : Parameters) (α β : List ℕ) where
   no_multiplier : No Shape → FirstBad (BadMultiplier a.size β) (length β) None → (i : ℕ) → No (Multiplier i)
   no_multiplier s p i f = let e = multipliers_length s in p i (rw e f.0) f.1
 
-  pub at_support : No Shape → No Distance → No Errors → No Width → No Inequality → (i : ℕ) → FirstBad (BadSupport a.size α) (length α) (Some i) → First refusal_of (Fails a α β) (Some (Support i))
+  pub at_support : No Shape → No Distance → No Errors → No Width → No Inequality → (i : ℕ) → FirstBad (BadSupport a.size α) (length α) (Some i) → Judged refusal_of (Fails a α β) (Some (Support i))
   at_support s d e w q i h =
       let n = support_length s in
-      at (Support i) (omega (arith, h.0, n), h.1) (lower 8 (omega arith) (λ k. s) (λ k. d) (λ k. e) (λ k. w) (λ k. q) (λ k. absurd (omega arith))) (earlier_support i (λ j l f. h.2 j l f.1))
+      judged (Some (Support i)) (at (Support i) (omega (arith, h.0, n), h.1) (lower 8 (omega arith) (λ k. s) (λ k. d) (λ k. e) (λ k. w) (λ k. q) (λ k. absurd (omega arith))) (earlier_support i (λ j l f. h.2 j l f.1)))
 
-  pub at_multiplier : No Shape → No Distance → No Errors → No Width → No Inequality → FirstBad (BadSupport a.size α) (length α) None → (i : ℕ) → FirstBad (BadMultiplier a.size β) (length β) (Some i) → First refusal_of (Fails a α β) (Some (Multiplier i))
+  pub at_multiplier : No Shape → No Distance → No Errors → No Width → No Inequality → FirstBad (BadSupport a.size α) (length α) None → (i : ℕ) → FirstBad (BadMultiplier a.size β) (length β) (Some i) → Judged refusal_of (Fails a α β) (Some (Multiplier i))
   at_multiplier s d e w q p i h =
       let n = multipliers_length s in
-      at (Multiplier i) (omega (arith, h.0, n), h.1) (lower 9 (omega arith) (λ k. s) (λ k. d) (λ k. e) (λ k. w) (λ k. q) (λ k. no_support s p)) (earlier_multiplier i (λ j l f. h.2 j l f.1))
+      judged (Some (Multiplier i)) (at (Multiplier i) (omega (arith, h.0, n), h.1) (lower 9 (omega arith) (λ k. s) (λ k. d) (λ k. e) (λ k. w) (λ k. q) (λ k. no_support s p)) (earlier_multiplier i (λ j l f. h.2 j l f.1)))
 
   none : No Shape → No Distance → No Errors → No Width → No Inequality → ((i : ℕ) → No (Support i)) → ((i : ℕ) → No (Multiplier i)) → (g : PlanFault) → No g
   none s d e w q p m Shape = s
@@ -111,5 +111,5 @@ module _ (a : Parameters) (α β : List ℕ) where
   none s d e w q p m (Support i) = p i
   none s d e w q p m (Multiplier i) = m i
 
-  pub at_none : No Shape → No Distance → No Errors → No Width → No Inequality → FirstBad (BadSupport a.size α) (length α) None → FirstBad (BadMultiplier a.size β) (length β) None → First refusal_of (Fails a α β) None
-  at_none s d e w q p m = none s d e w q (no_support s p) (no_multiplier s m)
+  pub at_none : No Shape → No Distance → No Errors → No Width → No Inequality → FirstBad (BadSupport a.size α) (length α) None → FirstBad (BadMultiplier a.size β) (length β) None → Judged refusal_of (Fails a α β) None
+  at_none s d e w q p m = judged None (none s d e w q (no_support s p) (no_multiplier s m))

@@ -27,11 +27,11 @@ pub enum PlanFault {
     Multiplier(usize),
 }
 
-impl PlanFault {
-    pub fn refusal(self) -> Refusal
-        ensures { result ≡ refusal_of self }
-    {
-        let (number, place) = match self {
+impl From<PlanFault> for Refusal {
+    ghost from_gives = { λ fault refusal. refusal ≡ refusal_of fault };
+
+    fn from(fault: PlanFault) -> Refusal {
+        let (number, place) = match fault {
             PlanFault::Shape => (3, 0),
             PlanFault::Distance => (4, 0),
             PlanFault::Errors => (5, 0),
@@ -45,5 +45,13 @@ impl PlanFault {
             layer: Layer::Plan,
             place,
         }
+    }
+}
+
+impl PlanFault {
+    pub fn refusal(self) -> Refusal
+        ensures { result ≡ refusal_of self }
+    {
+        Refusal::from(self)
     }
 }

@@ -2,136 +2,80 @@
 // refusal changes nothing, and in the order of the faults, so that the first one is named.
 ghost use Rattle.std.specs.Prelude.{◌<◌, ◌≤◌, length, Decides};
 ghost use Rattle.std.specs.Result.{result_err};
-ghost use Rattle.fault.specs.First.{First, Judged};
+ghost use Rattle.fault.specs.First.{Judged};
 ghost use Rattle.plan.specs.Numbers.{Solvable};
-ghost use Rattle.plan.specs.Faults.{refusal_of, BadDistance, BadWidth, SeenBefore, BadSupport, BadMultiplier, Fails};
+ghost use Rattle.plan.specs.Faults.{refusal_of, BadDistance, BadWidth, BadSupport, BadMultiplier, Fails};
 ghost use Rattle.plan.specs.Checks.{FirstBad};
 ghost use Rattle.plan.specs.declared.asked.PlanFault.TheVariants.{Shape};
 
-use crate::{Parameters, PlanFault};
+use crate::{MAX_K, MAX_L, MAX_N, MAX_SIZE, Parameters, PlanFault};
 
-// The longest word for which a plan has room.
-const MAX_N: usize = 64;
-// The size of the largest field.
-const MAX_SIZE: usize = 256;
-// The greatest multiplicity.
-const MAX_K: usize = 4;
-// The greatest width.
-const MAX_L: usize = 8;
-
-fn bad_shape(asked: Parameters, support: &[u16], multipliers: &[u16]) -> bool
-    ensures { Decides result (Fails asked support.now multipliers.now Shape) }
-{
-    asked.n < 2
-        || asked.n > MAX_N
-        || asked.size < 2
-        || asked.size > MAX_SIZE
-        || support.len() != asked.n
-        || multipliers.len() != asked.n
-}
-
-fn bad_distance(n: usize, t: usize) -> bool
-    ensures { Decides result (BadDistance n t) }
-{
-    t < 1 || t >= n
-}
-
-fn bad_width(k: usize, l: usize) -> bool
-    ensures { Decides result (BadWidth k l) }
-{
-    k < 1 || k > MAX_K || l <= k || l > MAX_L
-}
-
-// The equations of the interpolation are fewer than its unknowns. What is required keeps the
-// products small: the bounds of the numbers are checked before.
-fn solvable(n: usize, t: usize, w: usize, k: usize, l: usize) -> bool
-    requires word { (n ≤ 64) × ((t < n) × (w < n)) }
-    requires width { (k ≤ 4) × ((1 ≤ l) × (l ≤ 8)) }
-    ensures { Decides result (Solvable n t w k l) }
-{
-    let equations = n * (k * (k + 1) / 2);
-    let missing = (n - t - 1) * (l * (l - 1) / 2);
-    equations + missing < l * (k * (n - w))
-}
-
-fn seen_before(support: &[u16], i: usize) -> bool
-    requires { i < length support.now }
-    ensures { Decides result (SeenBefore support.now i) }
-{
-    let element = support[i];
-    for j in 0..i {
-        if support[j] == element {
-            return true;
-        }
+impl Parameters {
+    // There is no room for words of the length or for elements of the field, or a list is of another length.
+    fn bad_shape(self, support: &[u16], multipliers: &[u16]) -> bool
+        ensures { Decides result (Fails self support.now multipliers.now Shape) }
+    {
+        !(2..=MAX_N).contains(&self.n)
+            || !(2..=MAX_SIZE).contains(&self.size)
+            || support.len() != self.n
+            || multipliers.len() != self.n
     }
-    false
+
+    fn bad_distance(self) -> bool
+        ensures { Decides result (BadDistance self.n self.t) }
+    {
+        !(1..self.n).contains(&self.t)
+    }
+
+    fn bad_errors(self) -> bool
+        ensures { Decides result (self.n ≤ self.w) }
+    {
+        self.w >= self.n
+    }
+
+    fn bad_width(self) -> bool
+        ensures { Decides result (BadWidth self.k self.l) }
+    {
+        !(1..=MAX_K).contains(&self.k) || !(self.k + 1..=MAX_L).contains(&self.l)
+    }
+
+    // The equations of the interpolation are fewer than its unknowns. What is required keeps the
+    // products small: the bounds of the numbers are checked before.
+    fn solvable(self) -> bool
+        requires word { (self.n ≤ 64) × ((self.t < self.n) × (self.w < self.n)) }
+        requires width { (self.k ≤ 4) × ((1 ≤ self.l) × (self.l ≤ 8)) }
+        ensures { Decides result (Solvable self.n self.t self.w self.k self.l) }
+    {
+        let Parameters { n, t, w, k, l, .. } = self;
+        let equations = n * (k * (k + 1) / 2);
+        let missing = (n - t - 1) * (l * (l - 1) / 2);
+        equations + missing < l * (k * (n - w))
+    }
 }
 
 fn bad_support(support: &[u16], size: usize, i: usize) -> bool
     requires { i < length support.now }
     ensures { Decides result (BadSupport size support.now i) }
 {
-    support[i] as usize >= size || seen_before(support, i)
+    usize::from(support[i]) >= size || support[..i].contains(&support[i])
 }
 
 fn first_bad_support(support: &[u16], size: usize) -> Option<usize>
     ensures { FirstBad (BadSupport size support.now) (length support.now) result }
 {
-    for i in 0..support.len() {
-        if bad_support(support, size, i) {
-            return Some(i);
-        }
-    }
-    None
-}
-
-fn bad_multiplier(multipliers: &[u16], size: usize, i: usize) -> bool
-    requires { i < length multipliers.now }
-    ensures { Decides result (BadMultiplier size multipliers.now i) }
-{
-    multipliers[i] == 0 || multipliers[i] as usize >= size
+    (0..support.len()).find(|&i| bad_support(support, size, i))
 }
 
 fn first_bad_multiplier(multipliers: &[u16], size: usize) -> Option<usize>
     ensures { FirstBad (BadMultiplier size multipliers.now) (length multipliers.now) result }
 {
-    for i in 0..multipliers.len() {
-        if bad_multiplier(multipliers, size, i) {
-            return Some(i);
-        }
-    }
-    None
+    multipliers
+        .iter()
+        .position(|&b| b == 0 || usize::from(b) >= size)
 }
 
-// The first fault of what is asked for, if there is one.
-fn first_fault(asked: Parameters, support: &[u16], multipliers: &[u16]) -> Option<PlanFault>
-    ensures { First refusal_of (Fails asked support.now multipliers.now) result }
-{
-    if bad_shape(asked, support, multipliers) {
-        return Some(PlanFault::Shape);
-    }
-    if bad_distance(asked.n, asked.t) {
-        return Some(PlanFault::Distance);
-    }
-    if asked.w >= asked.n {
-        return Some(PlanFault::Errors);
-    }
-    if bad_width(asked.k, asked.l) {
-        return Some(PlanFault::Width);
-    }
-    if !solvable(asked.n, asked.t, asked.w, asked.k, asked.l) {
-        return Some(PlanFault::Inequality);
-    }
-    if let Some(i) = first_bad_support(support, asked.size) {
-        return Some(PlanFault::Support(i));
-    }
-    if let Some(i) = first_bad_multiplier(multipliers, asked.size) {
-        return Some(PlanFault::Multiplier(i));
-    }
-    None
-}
-
-// Refuses for the first fault, and for nothing else.
+// Refuses for the first fault of what is asked for, and for nothing else. The numbers and the two
+// lists stay three parameters, as `make` has them: a struct of them, made for this one call, is no plainer.
 pub(crate) fn judge(
     asked: Parameters,
     support: &[u16],
@@ -139,8 +83,26 @@ pub(crate) fn judge(
 ) -> Result<(), PlanFault>
     ensures { Judged refusal_of (Fails asked support.now multipliers.now) (result_err result) }
 {
-    match first_fault(asked, support, multipliers) {
-        Some(fault) => Err(fault),
-        None => Ok(()),
+    if asked.bad_shape(support, multipliers) {
+        return Err(PlanFault::Shape);
     }
+    if asked.bad_distance() {
+        return Err(PlanFault::Distance);
+    }
+    if asked.bad_errors() {
+        return Err(PlanFault::Errors);
+    }
+    if asked.bad_width() {
+        return Err(PlanFault::Width);
+    }
+    if !asked.solvable() {
+        return Err(PlanFault::Inequality);
+    }
+    if let Some(i) = first_bad_support(support, asked.size) {
+        return Err(PlanFault::Support(i));
+    }
+    if let Some(i) = first_bad_multiplier(multipliers, asked.size) {
+        return Err(PlanFault::Multiplier(i));
+    }
+    Ok(())
 }

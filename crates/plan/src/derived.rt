@@ -37,14 +37,12 @@ impl Plan {
     pub fn support(&self) -> &[u16]
         ensures { result.now ≡ take self.now.n self.now.support }
     {
-        let n = self.n;
-        &self.support[0..n]
+        &self.support[..self.n]
     }
 
     pub fn multipliers(&self) -> &[u16]
         ensures { result.now ≡ take self.now.n self.now.multipliers }
     {
-        let n = self.n;
-        &self.multipliers[0..n]
+        &self.multipliers[..self.n]
     }
 }

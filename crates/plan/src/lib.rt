@@ -13,7 +13,18 @@ mod reads;
 
 pub use asked::{Parameters, PlanFault};
 
-// The arrays hold n elements each, and zeros after them.
+// The longest word for which a plan has room.
+pub const MAX_N: usize = 64;
+// The size of the largest field.
+pub const MAX_SIZE: usize = 256;
+// The greatest multiplicity.
+pub const MAX_K: usize = 4;
+// The greatest width.
+pub const MAX_L: usize = 8;
+
+// The arrays hold n elements each, and zeros after them: no layer allocates, and each list is lent as
+// one slice. The numbers of `Parameters` stand as fields of their own, since they are named so by the
+// specifications of every layer above, and the size of a field that fits is a 16-bit number.
 #[derive(Clone, Copy)]
 pub struct Plan {
     size: u16,
@@ -22,8 +33,8 @@ pub struct Plan {
     w: usize,
     k: usize,
     l: usize,
-    support: [u16; 64],
-    multipliers: [u16; 64],
+    support: [u16; MAX_N],
+    multipliers: [u16; MAX_N],
     ghost n_low: { 2 ≤ n },
     ghost n_high: { n ≤ 64 },
     ghost size_low: { 2 ≤ size },

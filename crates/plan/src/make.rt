@@ -6,17 +6,15 @@ ghost use Rattle.plan.specs.Faults.{refusal_of, Fails};
 ghost use Rattle.plan.specs.Plans.{padded, Asked, starting_numbers, starting_support, starting_multipliers};
 
 use crate::checks::judge;
-use crate::{Parameters, Plan, PlanFault};
+use crate::{MAX_N, Parameters, Plan, PlanFault};
 
 // The list in an array of the plan's, followed by zeros.
-fn pad(letters: &[u16]) -> [u16; 64]
+fn pad(letters: &[u16]) -> [u16; MAX_N]
     requires { length letters.now ≤ 64 }
     ensures { result ≡ padded letters.now }
 {
-    let mut all = [0u16; 64];
-    let n = letters.len();
-    let part = &mut all[0..n];
-    part.copy_from_slice(letters);
+    let mut all = [0; MAX_N];
+    all[..letters.len()].copy_from_slice(letters);
     all
 }
 
@@ -64,9 +62,7 @@ impl Plan {
         ensures judged { Judged refusal_of (Fails asked support.now multipliers.now) (result_err result) }
         ensures written { MatchResult result (λ _. Asked asked support.now multipliers.now self.new) (λ _. self.new ≡ self.old) }
     {
-        if let Err(fault) = judge(asked, support, multipliers) {
-            return Err(fault);
-        }
+        judge(asked, support, multipliers)?;
         *self = filled(asked, support, multipliers);
         Ok(())
     }

@@ -9,7 +9,7 @@ impl Plan {
         ensures { result ≡ numbers_of self.now }
     {
         Parameters {
-            size: self.size as usize,
+            size: usize::from(self.size),
             n: self.n,
             t: self.t,
             w: self.w,

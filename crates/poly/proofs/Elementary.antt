@@ -1,7 +1,7 @@
 -- The operations on numbers are those of the field of elements.
-use Rattle.std.proofs.Common.{◌≡◌, ℕ, zero, suc, ◌+◌, ◌-◌, ◌<◌, ◌≤◌, ◌&&◌, ltb, List, [], ◌∷◌, length, get_or, drop, Some, None, Option, sym, refl, ap, ◌∙◌, subst, ⊎_elim, arith}
+use Rattle.std.proofs.Common.{◌≡◌, ℕ, zero, suc, ◌<◌, ◌&&◌, ltb, List, [], ◌∷◌, length, get_or, Some, None, Option, sym, refl, ap, ◌∙◌, subst, ⊎_elim, arith}
 use native.Mathlib.Decide.{ℕ_discrete}
-use Rattle.std.proofs.lemmas.List.{get_or_past, drop_more, drop_all}
+use Rattle.std.proofs.lemmas.List.{get_or_past}
 use Rattle.std.proofs.lemmas.Bool.{cases_eq, cases_lt, and_from, and_left, and_parts, cond-true, cond-false, cond_both, lt-ltb, le-ltb, ltb-true}
 use Rattle.algebra.specs.Operations.{Operations, Lawful}
 use Rattle.algebra.specs.Ring.{sub, mul_zero}
@@ -10,33 +10,12 @@ use Rattle.algebra.specs.Series.{Series}
 use Rattle.algebra.specs.Evaluation.{eval}
 use Rattle.algebra.proofs.Elements.{into_sum, into_product, into_negative, into_inverse, into_zero, number_into}
 use Rattle.field.specs.Meaning.{Meaning, operations, sum_of, negative_of, product_of, inverse_of}
-use Rattle.poly.specs.Arithmetic.{difference_of, times_inverse, quotient_of, affine_of}
+use Rattle.poly.specs.Arithmetic.{difference_of, times_inverse, quotient_of}
 use Rattle.poly.specs.Polynomials.{Elements, value_of}
 
 -- in a list of elements that counts as followed by zeros every member is an element
 pub everywhere : (m : Meaning) → 0 < m.size → (xs : List ℕ) → Elements m xs → (i : ℕ) → get_or xs i 0 < m.size
 everywhere m p xs h i = ⊎_elim (h i) (λ l. subst (λ x. x < m.size) (sym (get_or_past xs i 0 l)) p) (cases_lt i (length xs))
-
--- Horner's rule, one coefficient on
-pub value_start : (m : Meaning) (cs : List ℕ) (a : ℕ) → 0 ≡ value_of m (drop (length cs) cs) a
-unfolding value_of
-value_start m cs a = sym (ap (λ xs. value_of m xs a) (drop_all (length cs) cs (omega arith)))
-
-pub value_more : (m : Meaning) (cs : List ℕ) (a i v s : ℕ)
-    → 0 < i
-    → i ≤ length cs
-    → v ≡ value_of m (drop i cs) a
-    → s ≡ affine_of m (get_or cs (i - 1) 0) a v
-    → s ≡ value_of m (drop (i - 1) cs) a
-unfolding value_of
-value_more m cs a i v s h l e u =
-    let e1 : i - 1 + 1 ≡ i = omega arith in
-    u
-    ∙ ap (affine_of m (get_or cs (i - 1) 0) a) (e ∙ ap (λ x. value_of m (drop x cs) a) (sym e1))
-    ∙ sym (ap (λ xs. value_of m xs a) (drop_more cs (i - 1) 0 (omega arith)))
-
-pub value_end : (m : Meaning) (cs : List ℕ) (a i v : ℕ) → i ≤ 0 → v ≡ value_of m (drop i cs) a → v ≡ value_of m cs a
-value_end m cs a i v h e = let z : i ≡ 0 = omega arith in e ∙ ap (λ x. value_of m (drop x cs) a) z
 
 module _ (m : Meaning) (law : Lawful (operations m)) where
   abbrev o : Operations

@@ -3,3 +3,4 @@ pub mod Elementary
 pub mod NewtonForm
 pub mod Uniqueness
 pub mod Scaling
+pub mod Horner

@@ -1,5 +1,6 @@
 -- The steps of the loops that work out Newton's form.
-use Rattle.std.proofs.Common.{◌≡◌, ℕ, zero, suc, ◌+◌, ◌-◌, ◌<◌, ◌≤◌, cond, ltb, List, length, get_or, set, sym, refl, ap, ◌∙◌, ap₂, ⊎_elim, add-one, arith}
+use Rattle.std.proofs.Common.{◌≡◌, ℕ, zero, suc, ◌+◌, ◌<◌, ◌≤◌, cond, ltb, List, [], ◌∷◌, ◌++◌, append-nil, append_assoc, length, length-append, get_or, set, sym, refl, ap, ◌∙◌, ap₂, ⊎_elim, add-one, arith}
+use Rattle.std.proofs.Math.Seq.{get_or-append_seam}
 use Rattle.std.proofs.lemmas.Bool.{cases_eq, cond-true, cond-false, lt-ltb, le-ltb}
 use Rattle.field.specs.Meaning.{Meaning, sum_of, product_of}
 use Rattle.poly.specs.Arithmetic.{difference_of, quotient_of, slope_of, nest_of}
@@ -76,35 +77,37 @@ module _ (m : Meaning) (α : List ℕ) where
   unfolding coefficients_of
   reduced_all β xs j e h k = let p : j ≡ length β = omega arith in e ∙ ap (λ x. made (length β) (reduced m α β x)) p
 
-  module _ (d : ℕ → ℕ) (z : ℕ) where
-    pub nested_start : (n : ℕ) → 0 ≡ nested_from m α d z (n - n) n
-    unfolding nested_from
-    nested_start n = let e : n - n ≡ 0 = omega arith in sym (ap (λ x. nested_from m α d z x n) e)
+  -- Newton's form from its last term in: of the coefficients, those in rest are left, and v is the value of the terms after them
+  pub record Worked (coefficients : List ℕ) (z : ℕ) (rest : List ℕ) (v : ℕ) : Type 0 where
+    pub after : List ℕ
+    pub whole : coefficients ≡ rest ++ after
+    pub value : v ≡ nested_from m α (λ k. get_or coefficients k 0) z (length after) (length rest)
 
-    pub nested_more : (n i v point s : ℕ)
-        → 0 < i
-        → i ≤ n
-        → v ≡ nested_from m α d z (n - i) i
-        → point ≡ get_or α (i - 1) 0
-        → s ≡ nest_of m point (d (i - 1)) z v
-        → s ≡ nested_from m α d z (n - (i - 1)) (i - 1)
-    unfolding nested_from
-    nested_more n i v point s h l e q u =
-        let e1 : n - (i - 1) ≡ suc (n - i) = omega arith in
-        let e2 : suc (i - 1) ≡ i = omega arith in
-        u
-        ∙ ap₂ (λ x y. nest_of m x (d (i - 1)) z y) q (e ∙ ap (nested_from m α d z (n - i)) (sym e2))
-        ∙ sym (ap (λ x. nested_from m α d z x (i - 1)) e1)
+  pub worked_start : (cs : List ℕ) (z : ℕ) → Worked cs z cs 0
+  unfolding nested_from
+  worked_start cs z = record { after = []; whole = sym (append-nil cs); value = refl }
 
-    pub nested_all : (n i v : ℕ) → i ≤ 0 → v ≡ nested_from m α d z (n - i) i → v ≡ nested_from m α d z n 0
-    nested_all n i v h e =
-        let z1 : i ≡ 0 = omega arith in
-        let z2 : n - i ≡ n = omega arith in
-        e ∙ ap₂ (nested_from m α d z) z2 z1
+  pub worked_turn : (cs : List ℕ) (z : ℕ) (rest : List ℕ) (c v point s : ℕ) → Worked cs z (rest ++ c ∷ []) v → point ≡ get_or α (length rest) 0 → s ≡ nest_of m point c z v → Worked cs z rest s
+  unfolding nested_from
+  worked_turn cs z rest c v point s w p e = record {
+    after = c ∷ w.after;
+    whole = whole;
+    value = e ∙ ap₂ (λ x y. nest_of m x c z y) p (w.value ∙ ap (nested_from m α (λ k. get_or cs k 0) z (length w.after)) longer) ∙ ap (λ x. nest_of m (get_or α (length rest) 0) x z (nested_from m α (λ k. get_or cs k 0) z (length w.after) (suc (length rest)))) (sym here);
+  }
+    where
+      whole : cs ≡ rest ++ c ∷ w.after
+      whole = w.whole ∙ append_assoc rest (c ∷ []) w.after
 
-  pub nested_end : (d : List ℕ) (z i v : ℕ) → i ≤ 0 → v ≡ nested_from m α (λ k. get_or d k 0) z (length d - i) i → v ≡ nested_of m α d z
+      longer : length (rest ++ c ∷ []) ≡ suc (length rest)
+      longer = length-append rest (c ∷ []) ∙ add-one (length rest)
+
+      here : get_or cs (length rest) 0 ≡ c
+      here = ap (λ xs. get_or xs (length rest) 0) whole ∙ get_or-append_seam rest c w.after 0
+
+  pub worked_end : (cs : List ℕ) (z : ℕ) (rest : List ℕ) (v : ℕ) → length rest ≡ 0 → Worked cs z rest v → v ≡ nested_of m α cs z
   unfolding nested_of
-  nested_end d z i v h e = nested_all (λ k. get_or d k 0) z (length d) i v h e
+  worked_end cs z [] v e w = w.value ∙ ap (λ n. nested_from m α (λ k. get_or cs k 0) z n 0) (ap length (sym w.whole))
+  worked_end cs z (c ∷ rest) v e w = absurd (omega (arith, e))
 
   -- only the coefficients of the terms matter
   pub nested_same : (d e : ℕ → ℕ) (z n i : ℕ) → ((k : ℕ) → i ≤ k → k < i + n → d k ≡ e k) → nested_from m α d z n i ≡ nested_from m α e z n i

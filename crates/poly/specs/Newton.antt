@@ -1,12 +1,8 @@
 -- Newton's form of the polynomial through given points. Lists count as followed by zeros.
-use Rattle.std.specs.Prelude.{ℕ, zero, suc, cond, List, map, length, nat_lt, slice_index}
-use Rattle.std.specs.List.{range_with_len}
+use Rattle.std.specs.Prelude.{ℕ, zero, suc, cond, List, length, nat_lt, slice_index}
+pub use Rattle.field.specs.Made.{made}
 use Rattle.field.specs.Meaning.{Meaning, sum_of, product_of}
 use Rattle.poly.specs.Arithmetic.{difference_of, quotient_of}
-
--- the list of n numbers made from a function of the place
-unfoldable pub made : ℕ → (ℕ → ℕ) → List ℕ
-made n f = map f (range_with_len 0 n)
 
 -- the divided difference of the values d at i against place j, for the points α
 unfoldable pub divided_at : Meaning → List ℕ → (ℕ → ℕ) → ℕ → ℕ → ℕ

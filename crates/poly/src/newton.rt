@@ -5,8 +5,8 @@ ghost use Rattle.poly.specs.Arithmetic.{slope_of, nest_of};
 ghost use Rattle.poly.specs.Newton.{sweep_of, coefficients_of, nested_of};
 ghost use Rattle.poly.specs.Interpolation.{OneThrough};
 
-use crate::arithmetic::{affine, difference, member, quotient};
-use field::Field;
+use crate::arithmetic::{difference, member, quotient};
+use field::{Field, multiply_add};
 
 // The slope from the point (x0, y0) to the point (x, y).
 fn slope<F: Field>(field: &F, x0: u16, y0: u16, x: u16, y: u16) -> u16
@@ -24,6 +24,7 @@ fn sweep<F: Field>(field: &F, points: &[u16], values: &mut [u16], j: usize)
 {
     let first = values[j];
     let origin = member(points, j);
+    // By index: a place counts in both lists, of which the points may be the shorter.
     for i in j + 1..values.len() {
         values[i] = slope(field, origin, first, member(points, i), values[i]);
     }
@@ -43,7 +44,7 @@ fn nest<F: Field>(field: &F, x0: u16, c: u16, z: u16, v: u16) -> u16
     ensures { result ≡ nest_of (F.meaning field.now) x0 c z v }
 {
     let factor = difference(field, z, x0);
-    affine(field, c, factor, v)
+    multiply_add(field, c, factor, v)
 }
 
 // The value at z of Newton's form with these coefficients at these points, from the last one in.
@@ -51,8 +52,8 @@ pub fn newton_value<F: Field>(field: &F, points: &[u16], coefficients: &[u16], z
     ensures { result ≡ nested_of (F.meaning field.now) points.now coefficients.now z }
 {
     let mut v = 0;
-    for i in (0..coefficients.len()).rev() {
-        v = nest(field, member(points, i), coefficients[i], z, v);
+    for (i, &c) in coefficients.iter().enumerate().rev() {
+        v = nest(field, member(points, i), c, z, v);
     }
     v
 }

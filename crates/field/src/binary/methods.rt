@@ -13,45 +13,21 @@ ghost use Rattle.std.specs.Int.Bits.{xor_assoc, xor_zero_r, xor_self};
 ghost use Rattle.field.specs.Polynomials.{times_right};
 
 use crate::binary::BinaryField;
-use crate::power::{Product, raise};
-use crate::{Field, FieldFault};
+use crate::{Field, FieldFault, power};
 
 // The moduli for the degrees 2 to 8.
 const MODULI: [u16; 7] = [7, 11, 19, 37, 67, 131, 285];
 
 // The number as a degree, if it is one of 2 to 8.
-fn degree_of(m: usize) -> Option<u8>
-    ensures { MatchOption result (Judged refusal_of (BinaryFails m) (Some Degree)) (λ d. (d ≡ m) × Judged refusal_of (BinaryFails m) None × (2 ≤ d) × (d ≤ 8)) }
+fn degree_of(m: usize) -> Result<u8, FieldFault>
+    ensures judged { Judged refusal_of (BinaryFails m) (result_err result) }
+    ensures found { IfOk result (λ d. (d ≡ m) × (2 ≤ d) × (d ≤ 8)) }
 {
-    if m < 2 || m > 8 { None } else { Some(m as u8) }
-}
-
-// Twice a, that is a times x, reduced once.
-fn double(a: u16, degree: u16, modulus: u16) -> u16
-    requires { (a < 256) × ((degree ≤ 8) × (modulus < 512)) }
-    ensures { result ≡ doubled modulus degree a }
-{
-    let twice = a * 2;
-    if (twice >> degree) % 2 == 1 {
-        twice ^ modulus
+    if (2..=8).contains(&m) {
+        Ok(m as u8)
     } else {
-        twice
+        Err(FieldFault::Degree)
     }
-}
-
-// The product of two elements, by Horner's rule over the bits of b, reducing at every step.
-fn multiply(degree: u16, modulus: u16, a: u16, b: u16) -> u16
-    requires range { (2 ≤ degree) × (degree ≤ 8) }
-    requires listed { modulus ≡ modulus_of degree }
-    requires elements { (a < 2 ^ degree) × (b < 2 ^ degree) }
-    ensures { result ≡ times_modulo degree a b }
-{
-    let mut product = 0u16;
-    for i in (0..degree).rev() {
-        let term = if (b >> i) % 2 == 1 { a } else { 0 };
-        product = double(product, degree, modulus) ^ term;
-    }
-    product
 }
 
 impl BinaryField {
@@ -60,9 +36,7 @@ impl BinaryField {
         ensures judged { Judged refusal_of (BinaryFails m) (result_err result) }
         ensures made { IfOk result (λ f. (f.m ≡ m) × (f.all ≡ all)) }
     {
-        let Some(m) = degree_of(m) else {
-            return Err(FieldFault::Degree);
-        };
+        let m = degree_of(m)?;
         Ok(BinaryField {
             m,
             polynomial: MODULI[usize::from(m) - 2],
@@ -87,34 +61,30 @@ impl BinaryField {
         ensures { Irreducible self.now.m (modulus_of self.now.m) }
     {}
 
-    // The number of elements.
-    fn order(&self) -> u16
-        ensures { result ≡ 2 ^ self.now.m }
+    // Twice an element, that is the element times x, reduced once.
+    fn double(&self, a: u16) -> u16
+        requires { a < 2 ^ self.now.m }
+        ensures { result ≡ doubled (modulus_of self.now.m) self.now.m a }
     {
-        1u16 << self.degree()
-    }
-}
-
-impl Product for BinaryField {
-    ghost times = { λ f. product_of (binary f.m f.all) };
-
-    fn times(&self, a: u16, b: u16) -> u16 {
-        let size = self.order();
-        if a < size && b < size {
-            multiply(self.degree(), self.modulus(), a, b)
+        let twice = a * 2;
+        if (twice >> self.degree()) % 2 == 1 {
+            twice ^ self.modulus()
         } else {
-            0
+            twice
         }
     }
-}
 
-impl BinaryField {
-    // The inverse of an element other than 0.
-    fn reciprocal(&self, a: u16) -> u16
-        requires { (0 < a) × (a < 2 ^ self.now.m) }
-        ensures { result ≡ (binary self.now.m self.now.all).inverse a }
+    // The product of two elements, by Horner's rule over the bits of b, reducing at every step.
+    fn multiply(&self, a: u16, b: u16) -> u16
+        requires { (a < 2 ^ self.now.m) × (b < 2 ^ self.now.m) }
+        ensures { result ≡ times_modulo self.now.m a b }
     {
-        raise(self, a, self.order() - 2)
+        let mut product = 0u16;
+        for i in (0..self.degree()).rev() {
+            let term = if (b >> i) % 2 == 1 { a } else { 0 };
+            product = self.double(product) ^ term;
+        }
+        product
     }
 }
 
@@ -157,7 +127,7 @@ impl Field for BinaryField {
     ghost product_inverse = { λ f a h n. laws.inverse_right f.m f.above f.below a h n };
 
     fn size(&self) -> u16 {
-        self.order()
+        1u16 << self.degree()
     }
 
     fn letters(&self) -> u16 {
@@ -165,24 +135,24 @@ impl Field for BinaryField {
     }
 
     fn sum(&self, a: u16, b: u16) -> u16 {
-        let size = self.order();
+        let size = self.size();
         if a < size && b < size { a ^ b } else { 0 }
     }
 
     fn negative(&self, a: u16) -> u16 {
-        if a < self.order() { a } else { 0 }
+        if a < self.size() { a } else { 0 }
     }
 
     fn product(&self, a: u16, b: u16) -> u16 {
-        self.times(a, b)
+        let size = self.size();
+        if a < size && b < size {
+            self.multiply(a, b)
+        } else {
+            0
+        }
     }
 
     fn inverse(&self, a: u16) -> Option<u16> {
-        let size = self.order();
-        if 0 < a && a < size {
-            Some(self.reciprocal(a))
-        } else {
-            None
-        }
+        power::inverse(self.size(), |x, y| self.product(x, y), a)
     }
 }

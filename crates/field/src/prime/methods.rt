@@ -1,5 +1,5 @@
 // How a prime field is made, and what it answers.
-ghost use Rattle.std.specs.Prelude.{◌≡◌, ℕ, ◌*◌, ◌%◌, ◌<◌, ◌≤◌, IfOk, Some, None, MatchOption};
+ghost use Rattle.std.specs.Prelude.{◌≡◌, ℕ, ◌*◌, ◌%◌, ◌<◌, ◌≤◌, IfOk, ◌==◌, find};
 ghost use Rattle.std.specs.Result.{result_err};
 ghost use Rattle.fault.specs.First.{Judged};
 ghost use Rattle.field.specs.Faults.{refusal_of, PrimeFails};
@@ -11,9 +11,8 @@ ghost use Rattle.field.specs.PowersLemmas.{power_closed};
 ghost use Rattle.field.specs.ModularLaws as modulo;
 ghost use Rattle.field.specs.PrimeTable.{prime_listed, listed_inverse};
 
-use crate::power::{Product, raise};
 use crate::prime::PrimeField;
-use crate::{Field, FieldFault};
+use crate::{Field, FieldFault, power};
 
 // The odd primes below 256.
 const PRIMES: [u8; 53] = [
@@ -23,15 +22,18 @@ const PRIMES: [u8; 53] = [
 ];
 
 // The entry of the table that equals p.
-fn entry(p: usize) -> Option<u8>
-    ensures { MatchOption result (Judged refusal_of (PrimeFails p) (Some Characteristic)) (λ q. (q ≡ p) × Judged refusal_of (PrimeFails p) None × (3 ≤ q) × (q ≤ 251) × Prime q) }
+fn listed(p: usize) -> Option<u8>
+    ensures { result ≡ find (λ q. q == p) PRIMES }
 {
-    for q in PRIMES {
-        if usize::from(q) == p {
-            return Some(q);
-        }
-    }
-    None
+    PRIMES.iter().copied().find(|&q| usize::from(q) == p)
+}
+
+// The same, or a refusal: the table holds the primes of 3 to 251 and no other number.
+fn entry(p: usize) -> Result<u8, FieldFault>
+    ensures judged { Judged refusal_of (PrimeFails p) (result_err result) }
+    ensures found { IfOk result (λ q. (q ≡ p) × (3 ≤ q) × (q ≤ 251) × Prime q) }
+{
+    listed(p).ok_or(FieldFault::Characteristic)
 }
 
 // The remainder of a number below 2p, with no division.
@@ -48,10 +50,7 @@ impl PrimeField {
         ensures judged { Judged refusal_of (PrimeFails p) (result_err result) }
         ensures made { IfOk result (λ f. f.p ≡ p) }
     {
-        match entry(p) {
-            Some(p) => Ok(PrimeField { p }),
-            None => Err(FieldFault::Characteristic),
-        }
+        Ok(PrimeField { p: entry(p)? })
     }
 
     // The prime, which has no divisor from 2 to p − 1.
@@ -60,14 +59,6 @@ impl PrimeField {
         ensures prime { Prime result }
     {
         u16::from(self.p)
-    }
-}
-
-impl Product for PrimeField {
-    ghost times = { λ f. times_modulo f.p };
-
-    fn times(&self, a: u16, b: u16) -> u16 {
-        (u32::from(a) * u32::from(b) % u32::from(self.characteristic())) as u16
     }
 }
 
@@ -122,15 +113,14 @@ impl Field for PrimeField {
 
     fn product(&self, a: u16, b: u16) -> u16 {
         let p = self.characteristic();
-        if a < p && b < p { self.times(a, b) } else { 0 }
+        if a < p && b < p {
+            (u32::from(a) * u32::from(b) % u32::from(p)) as u16
+        } else {
+            0
+        }
     }
 
     fn inverse(&self, a: u16) -> Option<u16> {
-        let p = self.characteristic();
-        if 0 < a && a < p {
-            Some(raise(self, a, p - 2))
-        } else {
-            None
-        }
+        power::inverse(self.size(), |x, y| self.product(x, y), a)
     }
 }
