@@ -9,6 +9,7 @@ mod letters;
 mod listing;
 mod member;
 mod picking;
+mod plan_code;
 mod refusal;
 
 pub use encode::write;

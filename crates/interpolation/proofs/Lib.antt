@@ -1,3 +1,4 @@
+pub mod BasisLists
 pub mod Filling
 pub mod LeastRow
 pub mod LiftedRun

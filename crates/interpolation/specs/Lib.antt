@@ -1,3 +1,4 @@
+pub mod Bases
 pub mod Pivots
 pub mod Rows
 pub mod Runs

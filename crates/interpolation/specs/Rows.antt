@@ -37,6 +37,10 @@ unfoldable pub cleared_of : Meaning → List (List ℕ) → ℕ → ℕ → ℕ 
 cleared_of m source factor l bound weight discrepancies rows =
     made 8 (λ j. cleared_row_of m source factor l bound weight (slice_index discrepancies j) (slice_index_or rows j []))
 
+-- the row times x − a, where the degree of the product is below the bound
+unfoldable pub raised_row_of : Meaning → ℕ → ℕ → ℕ → ℕ → ℕ → List (List ℕ) → List (List ℕ)
+raised_row_of m degree a l bound weight q = cond (nat_lt degree bound) (times_polynomial_of m a l bound weight q) q
+
 -- row p times x − a, where the degree of the product is below the bound
 unfoldable pub raised_of : Meaning → ℕ → ℕ → ℕ → ℕ → ℕ → ℕ → List (List (List ℕ)) → List (List (List ℕ))
 raised_of m p degree a l bound weight rows =

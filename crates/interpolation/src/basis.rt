@@ -1,27 +1,35 @@
-// The rows that interpolation starts with: eight powers of y, and the weighted degree of each.
+// The basis that interpolation works on: eight polynomials, each with its weighted degree.
 ghost use Rattle.std.specs.Prelude.{◌≡◌};
-ghost use Rattle.interpolation.specs.Rows.{start_rows, start_degrees};
+ghost use Rattle.interpolation.specs.Bases.{start_row, start_of};
 
-use bivariate::combinations::{y_power, zero_polynomial};
+use bivariate::Polynomial;
+use bivariate::combinations::y_power;
+use std::array;
 
-// The powers y^0 to y^7.
-pub fn start_rows() -> [[[u16; 256]; 8]; 8]
-    ensures { result ≡ start_rows }
-{
-    let mut rows = [zero_polynomial(); 8];
-    for j in 0..8 {
-        rows[j] = y_power(j);
-    }
-    rows
+// A polynomial with its weighted degree.
+#[derive(Clone, Copy, Debug, PartialEq, Eq)]
+pub struct BasisRow {
+    pub polynomial: Polynomial,
+    pub degree: usize,
 }
 
-// Their degrees where y has the weight.
-pub fn start_degrees(weight: usize) -> [usize; 8]
-    ensures { result ≡ start_degrees weight }
+pub type Basis = [BasisRow; 8];
+
+// The power y^j, with its degree where y has the weight.
+#[tactic(auto, unfolding(crate::specs::Bases::start_row))]
+fn start_row(weight: usize, j: usize) -> BasisRow
+    ensures { result ≡ start_row weight j }
 {
-    let mut degrees = [0; 8];
-    for j in 0..8 {
-        degrees[j] = weight.saturating_mul(j);
+    BasisRow {
+        polynomial: y_power(j),
+        degree: weight.saturating_mul(j),
     }
-    degrees
+}
+
+// The powers y^0 to y^7, with their degrees where y has the weight.
+#[tactic(auto, unfolding(crate::specs::Bases::start_of, bivariate::specs::Made::made))]
+pub fn start(weight: usize) -> Basis
+    ensures { result ≡ start_of weight }
+{
+    array::from_fn(|j| start_row(weight, j))
 }

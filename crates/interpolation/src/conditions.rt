@@ -1,54 +1,46 @@
 // What one condition does to the rows of a basis.
 ghost use Rattle.std.specs.Prelude.{◌≡◌, ◌+◌, ◌<◌, slice_index, slice_set};
-ghost use Rattle.interpolation.specs.Rows.{live_discrepancy_of, discrepancies_of, inverse_or_zero, cleared_row_of, cleared_of, raised_of, reduced_of};
+ghost use Rattle.interpolation.specs.Bases.{rows_of, degrees_of};
+ghost use Rattle.interpolation.specs.Rows.{live_discrepancy_of, discrepancies_of, inverse_or_zero, cleared_row_of, cleared_of, raised_row_of, reduced_of};
 ghost use Rattle.interpolation.specs.States.{Stepped};
 
+use crate::basis::{Basis, BasisRow};
 use crate::pivots::pivot;
 use bivariate::combinations::{multiply_polynomial, subtract_polynomial};
 use bivariate::discrepancies::discrepancy;
+use bivariate::{Bounds, Condition, Polynomial};
 use field::Field;
 
 // The discrepancy of a row whose degree is below the bound, and 0 for other rows.
 #[tactic(auto, unfolding(crate::specs::Rows::live_discrepancy_of))]
 fn live_discrepancy<F: Field>(
     field: &F,
-    q: &[[u16; 256]; 8],
-    degree: usize,
-    l: usize,
-    bound: usize,
-    weight: usize,
-    a: u16,
-    b: u16,
-    u: usize,
-    r: usize,
+    row: &BasisRow,
+    bounds: Bounds,
+    condition: Condition,
 ) -> u16
-    ensures { result ≡ live_discrepancy_of (F.meaning field.now) q.now degree l bound weight a b u r }
+    ensures { result ≡ live_discrepancy_of (F.meaning field.now) row.now.polynomial row.now.degree bounds.l bounds.bound bounds.weight condition.a condition.b condition.u condition.r }
 {
-    if degree < bound {
-        discrepancy(field, q, l, bound, weight, a, b, u, r)
+    if row.degree < bounds.bound {
+        discrepancy(field, &row.polynomial, bounds, condition)
     } else {
         0
     }
 }
 
 // The discrepancies of the rows below l whose degree is below the bound, and 0 for other rows.
+#[tactic(auto, using(crate::proofs::BasisLists::discrepant_none, crate::proofs::BasisLists::discrepant_more, crate::proofs::BasisLists::discrepant_all))]
 pub fn discrepancies<F: Field>(
     field: &F,
-    rows: &[[[u16; 256]; 8]; 8],
-    degrees: &[usize; 8],
-    l: usize,
-    bound: usize,
-    weight: usize,
-    a: u16,
-    b: u16,
-    u: usize,
-    r: usize,
+    basis: &Basis,
+    bounds: Bounds,
+    condition: Condition,
 ) -> [u16; 8]
-    ensures { result ≡ discrepancies_of (F.meaning field.now) rows.now degrees.now l bound weight a b u r }
+    ensures { result ≡ discrepancies_of (F.meaning field.now) (rows_of basis.now) (degrees_of basis.now) bounds.l bounds.bound bounds.weight condition.a condition.b condition.u condition.r }
 {
     let mut result = [0; 8];
-    for j in 0..l.min(8) {
-        result[j] = live_discrepancy(field, &rows[j], degrees[j], l, bound, weight, a, b, u, r);
+    for (j, row) in basis[..bounds.rows()].iter().enumerate() {
+        result[j] = live_discrepancy(field, row, bounds, condition);
     }
     result
 }
@@ -61,124 +53,85 @@ fn inverse_or_zero<F: Field>(field: &F, a: u16) -> u16
     field.inverse(a).unwrap_or(0)
 }
 
-// Subtracts the multiple of the source by the discrepancy times the factor, unless the discrepancy is 0.
+// Subtracts from the row the multiple of the source by the discrepancy times the factor, unless the discrepancy is 0.
 #[tactic(auto, unfolding(crate::specs::Rows::cleared_row_of))]
 fn clear_row<F: Field>(
     field: &F,
-    q: &mut [[u16; 256]; 8],
-    source: &[[u16; 256]; 8],
+    row: &mut BasisRow,
+    source: &Polynomial,
     discrepancy: u16,
     factor: u16,
-    l: usize,
-    bound: usize,
-    weight: usize,
+    bounds: Bounds,
 )
-    ensures { q.new ≡ cleared_row_of (F.meaning field.now) source.now factor l bound weight discrepancy q.old }
+    ensures polynomial { row.new.polynomial ≡ cleared_row_of (F.meaning field.now) source.now factor bounds.l bounds.bound bounds.weight discrepancy row.old.polynomial }
+    ensures degree { row.new.degree ≡ row.old.degree }
 {
     if discrepancy != 0 {
-        subtract_polynomial(
-            field,
-            q,
-            source,
-            field.product(discrepancy, factor),
-            l,
-            bound,
-            weight,
-        );
+        let multiple = field.product(discrepancy, factor);
+        subtract_polynomial(field, &mut row.polynomial, source, multiple, bounds);
     }
 }
 
 // Clears each row whose discrepancy is not 0 by the source, whose discrepancy has the inverse factor.
+#[tactic(auto, using(crate::proofs::BasisLists::eliminating_none, crate::proofs::BasisLists::eliminating_more, crate::proofs::BasisLists::eliminating_rows, crate::proofs::BasisLists::eliminating_degrees))]
 pub fn eliminate<F: Field>(
     field: &F,
-    rows: &mut [[[u16; 256]; 8]; 8],
-    source: &[[u16; 256]; 8],
+    basis: &mut Basis,
+    source: &Polynomial,
     discrepancies: &[u16; 8],
     factor: u16,
-    l: usize,
-    bound: usize,
-    weight: usize,
+    bounds: Bounds,
 )
-    ensures { rows.new ≡ cleared_of (F.meaning field.now) source.now factor l bound weight discrepancies.now rows.old }
+    ensures rows { rows_of basis.new ≡ cleared_of (F.meaning field.now) source.now factor bounds.l bounds.bound bounds.weight discrepancies.now (rows_of basis.old) }
+    ensures degrees { degrees_of basis.new ≡ degrees_of basis.old }
 {
-    for j in 0..8 {
-        clear_row(
-            field,
-            &mut rows[j],
-            source,
-            discrepancies[j],
-            factor,
-            l,
-            bound,
-            weight,
-        );
+    for (j, row) in basis.iter_mut().enumerate() {
+        clear_row(field, row, source, discrepancies[j], factor, bounds);
     }
 }
 
-// Multiplies row p by x − a, where the degree of the product is below the bound.
-#[tactic(auto, unfolding(crate::specs::Rows::raised_of))]
-fn raise<F: Field>(
-    field: &F,
-    rows: &mut [[[u16; 256]; 8]; 8],
-    p: usize,
-    degree: usize,
-    a: u16,
-    l: usize,
-    bound: usize,
-    weight: usize,
-)
-    requires { p < 8 }
-    ensures { rows.new ≡ raised_of (F.meaning field.now) p degree a l bound weight rows.old }
+// Multiplies the row by x − a, where the degree of the product is below the bound.
+#[tactic(auto, unfolding(crate::specs::Rows::raised_row_of))]
+fn raise<F: Field>(field: &F, row: &mut BasisRow, a: u16, bounds: Bounds)
+    requires { row.old.degree < bounds.bound }
+    ensures polynomial { row.new.polynomial ≡ raised_row_of (F.meaning field.now) (row.old.degree + 1) a bounds.l bounds.bound bounds.weight row.old.polynomial }
+    ensures degree { row.new.degree ≡ row.old.degree + 1 }
 {
-    if degree < bound {
-        multiply_polynomial(field, &mut rows[p], a, l, bound, weight);
+    row.degree += 1;
+    if row.degree < bounds.bound {
+        multiply_polynomial(field, &mut row.polynomial, a, bounds);
     }
 }
 
 // Clears the other rows of their discrepancies by row p, and multiplies row p by x − a.
+#[tactic(auto, using(crate::proofs::BasisLists::reduced_live, crate::proofs::BasisLists::reduced_rows, crate::proofs::BasisLists::reduced_degrees))]
 fn reduce<F: Field>(
     field: &F,
-    rows: &mut [[[u16; 256]; 8]; 8],
-    degrees: &mut [usize; 8],
+    basis: &mut Basis,
     p: usize,
     discrepancies: &[u16; 8],
     a: u16,
-    l: usize,
-    bound: usize,
-    weight: usize,
+    bounds: Bounds,
 )
     requires inside { p < 8 }
-    requires live { slice_index degrees.old p < bound }
-    ensures rows { rows.new ≡ reduced_of (F.meaning field.now) p discrepancies.now degrees.old a l bound weight rows.old }
-    ensures degrees { degrees.new ≡ slice_set degrees.old p (slice_index degrees.old p + 1) }
+    requires live { slice_index (degrees_of basis.old) p < bounds.bound }
+    ensures rows { rows_of basis.new ≡ reduced_of (F.meaning field.now) p discrepancies.now (degrees_of basis.old) a bounds.l bounds.bound bounds.weight (rows_of basis.old) }
+    ensures degrees { degrees_of basis.new ≡ slice_set (degrees_of basis.old) p (slice_index (degrees_of basis.old) p + 1) }
 {
-    let source = rows[p];
+    let source = basis[p].polynomial;
     let factor = inverse_or_zero(field, discrepancies[p]);
     let mut others = *discrepancies;
     others[p] = 0;
-    eliminate(field, rows, &source, &others, factor, l, bound, weight);
-    let degree = degrees[p] + 1;
-    degrees[p] = degree;
-    raise(field, rows, p, degree, a, l, bound, weight);
+    eliminate(field, basis, &source, &others, factor, bounds);
+    raise(field, &mut basis[p], a, bounds);
 }
 
 // One step of the method: the condition that in q(a + x, b + y) the coefficient of x^r y^u be 0.
-pub fn step<F: Field>(
-    field: &F,
-    rows: &mut [[[u16; 256]; 8]; 8],
-    degrees: &mut [usize; 8],
-    a: u16,
-    b: u16,
-    u: usize,
-    r: usize,
-    l: usize,
-    bound: usize,
-    weight: usize,
-)
-    ensures { Stepped (F.meaning field.now) a b u r l bound weight rows.old degrees.old rows.new degrees.new }
+pub fn step<F: Field>(field: &F, basis: &mut Basis, bounds: Bounds, condition: Condition)
+    ensures { Stepped (F.meaning field.now) condition.a condition.b condition.u condition.r bounds.l bounds.bound bounds.weight (rows_of basis.old) (degrees_of basis.old) (rows_of basis.new) (degrees_of basis.new) }
 {
-    let failing = discrepancies(field, rows, degrees, l, bound, weight, a, b, u, r);
-    if let Some(p) = pivot(degrees, &failing, l, bound) {
-        reduce(field, rows, degrees, p, &failing, a, l, bound, weight);
+    let failing = discrepancies(field, basis, bounds, condition);
+    if let Some(p) = pivot(basis, &failing, bounds) {
+        reduce(field, basis, p, &failing, condition.a, bounds);
     }
 }

@@ -8,5 +8,6 @@ pub mod pivots;
 pub mod places;
 pub mod run;
 
+pub use basis::{Basis, BasisRow};
 pub use places::Place;
 pub use run::{interpolant, interpolate};

@@ -1,30 +1,35 @@
 // The method as a whole: from the powers of y through the conditions of each place.
-ghost use Rattle.std.specs.Prelude.{◌≡◌, ◌-◌, ◌<◌, false, [], slice_index_or};
+ghost use Rattle.std.specs.Prelude.{◌≡◌, ◌-◌, ◌<◌, [], is_some, slice_index_or};
+ghost use Rattle.std.specs.Option.{unwrap_or};
+ghost use Rattle.interpolation.specs.Bases.{rows_of, degrees_of};
 ghost use Rattle.interpolation.specs.Runs.{ColumnMet, PlaceMet, Interpolated, Interpolant, NoneBelow};
 
-use crate::basis::{start_degrees, start_rows};
+use crate::basis::{Basis, start};
 use crate::conditions::step;
 use crate::pivots::pivot;
 use crate::places::Place;
+use bivariate::{Bounds, Condition, Polynomial};
 use field::Field;
 
-// The conditions at the point (a, b) and the power u of y, for the powers of x below count.
+// The conditions of a place at the power u of y, for the powers of x below count.
 fn meet_column<F: Field>(
     field: &F,
-    rows: &mut [[[u16; 256]; 8]; 8],
-    degrees: &mut [usize; 8],
-    a: u16,
-    b: u16,
+    basis: &mut Basis,
+    bounds: Bounds,
+    place: Place,
     u: usize,
     count: usize,
-    l: usize,
-    bound: usize,
-    weight: usize,
 )
-    ensures { ColumnMet (F.meaning field.now) a b u count l bound weight rows.old degrees.old rows.new degrees.new }
+    ensures { ColumnMet (F.meaning field.now) place.abscissa place.ordinate u count bounds.l bounds.bound bounds.weight (rows_of basis.old) (degrees_of basis.old) (rows_of basis.new) (degrees_of basis.new) }
 {
     for r in 0..count {
-        step(field, rows, degrees, a, b, u, r, l, bound, weight);
+        let condition = Condition {
+            a: place.abscissa,
+            b: place.ordinate,
+            u,
+            r,
+        };
+        step(field, basis, bounds, condition);
     }
 }
 
@@ -37,83 +42,43 @@ fn powers_of_x(multiplicity: usize, u: usize) -> usize
 }
 
 // The conditions of one place: those of x^r y^u with u + r below the multiplicity.
-fn meet_place<F: Field>(
-    field: &F,
-    rows: &mut [[[u16; 256]; 8]; 8],
-    degrees: &mut [usize; 8],
-    place: Place,
-    l: usize,
-    bound: usize,
-    weight: usize,
-)
-    ensures { PlaceMet (F.meaning field.now) place l bound weight rows.old degrees.old rows.new degrees.new }
+fn meet_place<F: Field>(field: &F, basis: &mut Basis, bounds: Bounds, place: Place)
+    ensures { PlaceMet (F.meaning field.now) place bounds.l bounds.bound bounds.weight (rows_of basis.old) (degrees_of basis.old) (rows_of basis.new) (degrees_of basis.new) }
 {
-    let multiplicity = place.multiplicity;
-    for u in 0..multiplicity {
-        meet_column(
-            field,
-            rows,
-            degrees,
-            place.abscissa,
-            place.ordinate,
-            u,
-            powers_of_x(multiplicity, u),
-            l,
-            bound,
-            weight,
-        );
+    for u in 0..place.multiplicity {
+        let count = powers_of_x(place.multiplicity, u);
+        meet_column(field, basis, bounds, place, u, count);
     }
 }
 
-// Leads the powers of y through the conditions of the places. After that each row below l whose degree is
+// The powers of y led through the conditions of the places. After that each row below l whose degree is
 // below the bound vanishes at each place with its multiplicity.
-pub fn interpolate<F: Field>(
-    field: &F,
-    places: &[Place],
-    l: usize,
-    bound: usize,
-    weight: usize,
-    rows: &mut [[[u16; 256]; 8]; 8],
-    degrees: &mut [usize; 8],
-)
-    ensures { Interpolated (F.meaning field.now) places.now l bound weight rows.new degrees.new }
+pub fn interpolate<F: Field>(field: &F, places: &[Place], bounds: Bounds) -> Basis
+    ensures { Interpolated (F.meaning field.now) places.now bounds.l bounds.bound bounds.weight (rows_of result) (degrees_of result) }
 {
-    *rows = start_rows();
-    *degrees = start_degrees(weight);
-    for i in 0..places.len() {
-        meet_place(field, rows, degrees, places[i], l, bound, weight);
+    let mut basis = start(bounds.weight);
+    for place in places {
+        meet_place(field, &mut basis, bounds, *place);
     }
+    basis
 }
 
-// Writes row p to q.
-fn write_row(q: &mut [[u16; 256]; 8], rows: &[[[u16; 256]; 8]; 8], p: usize)
+// The polynomial of row p.
+#[tactic(auto, using(crate::proofs::BasisLists::row_read))]
+fn polynomial_at(basis: &Basis, p: usize) -> Polynomial
     requires { p < 8 }
-    ensures { q.new ≡ slice_index_or rows.now p [] }
+    ensures { result ≡ slice_index_or (rows_of basis.now) p [] }
 {
-    *q = rows[p];
+    basis[p].polynomial
 }
 
-// Finds the polynomial of least weighted degree that vanishes at each place with its multiplicity, among those
-// with rows below l and weighted degree below the bound, and writes it to q. The answer is false where there
-// is none, and q is then as it was.
-pub fn interpolant<F: Field>(
-    field: &F,
-    places: &[Place],
-    l: usize,
-    bound: usize,
-    weight: usize,
-    q: &mut [[u16; 256]; 8],
-) -> bool
-    ensures found { Interpolant (F.meaning field.now) places.now l bound weight q.new result }
-    ensures none { NoneBelow (F.meaning field.now) places.now l bound weight result }
-    ensures kept { result ≡ false → q.new ≡ q.old }
+// The polynomial of least weighted degree that vanishes at each place with its multiplicity, among those within
+// the bounds, where there is one.
+pub fn interpolant<F: Field>(field: &F, places: &[Place], bounds: Bounds) -> Option<Polynomial>
+    ensures found { Interpolant (F.meaning field.now) places.now bounds.l bounds.bound bounds.weight (unwrap_or result []) (is_some result) }
+    ensures none { NoneBelow (F.meaning field.now) places.now bounds.l bounds.bound bounds.weight (is_some result) }
 {
-    let mut rows = start_rows();
-    let mut degrees = start_degrees(weight);
-    interpolate(field, places, l, bound, weight, &mut rows, &mut degrees);
-    if let Some(p) = pivot(&degrees, &[1; 8], l, bound) {
-        write_row(q, &rows, p);
-        return true;
-    }
-    false
+    let basis = interpolate(field, places, bounds);
+    let p = pivot(&basis, &[1; 8], bounds)?;
+    Some(polynomial_at(&basis, p))
 }

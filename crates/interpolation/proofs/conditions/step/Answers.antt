@@ -1,3 +1,6 @@
+use Rattle.std.proofs.Common.{◌∙◌}
+use Rattle.interpolation.specs.Bases.{rows_of, degrees_of}
+use Rattle.interpolation.proofs.BasisLists.{length_degrees}
 use Rattle.interpolation.proofs.LiftedStep.{step_none, step_some}
 use Rattle.interpolation.proofs.conditions.step.Goals as goal
 
@@ -10,21 +13,21 @@ pub returns-in-Some : goal.returns-in-Some
 returns-in-Some g c =
     step_some
     (g.F.Field.meaning c.args.field.now)
-    c.args.a
-    c.args.b
-    c.args.u
-    c.args.r
-    c.args.l
-    c.args.bound
-    c.args.weight
-    c.args.rows.now
-    c.args.degrees.now
+    c.args.condition.a
+    c.args.condition.b
+    c.args.condition.u
+    c.args.condition.r
+    c.args.bounds.l
+    c.args.bounds.bound
+    c.args.bounds.weight
+    (rows_of c.args.basis.now)
+    (degrees_of c.args.basis.now)
     c.discrepancies-failing.result
     c.pivot.result
     c.in-Some.p
-    c.reduce.new.rows
-    c.reduce.new.degrees
-    c.told-degrees
+    (rows_of c.reduce.new.basis)
+    (degrees_of c.reduce.new.basis)
+    (length_degrees c.args.basis.now ∙ c.told-basis)
     c.discrepancies-failing.ensures
     c.pivot.ensures
     c.in-Some.is
@@ -35,15 +38,15 @@ pub returns-in_default : goal.returns-in_default
 returns-in_default g c =
     step_none
     (g.F.Field.meaning c.args.field.now)
-    c.args.a
-    c.args.b
-    c.args.u
-    c.args.r
-    c.args.l
-    c.args.bound
-    c.args.weight
-    c.args.rows.now
-    c.args.degrees.now
+    c.args.condition.a
+    c.args.condition.b
+    c.args.condition.u
+    c.args.condition.r
+    c.args.bounds.l
+    c.args.bounds.bound
+    c.args.bounds.weight
+    (rows_of c.args.basis.now)
+    (degrees_of c.args.basis.now)
     c.discrepancies-failing.result
     c.pivot.result
     c.discrepancies-failing.ensures

@@ -1,23 +1,25 @@
-use Rattle.std.proofs.Common.{refl}
-use Rattle.std.proofs.lemmas.Bool.{true≢false}
+use Rattle.std.proofs.Common.{Option, sym, refl, subst}
+use Rattle.std.specs.Prelude.{is_some, [], List, ℕ}
+use Rattle.std.specs.Option.{unwrap_or}
+use Rattle.interpolation.specs.Bases.{rows_of, degrees_of}
+use Rattle.interpolation.specs.Runs.{Interpolant}
 use Rattle.interpolation.proofs.LeastRow.{row_found, row_none, none_below}
 use Rattle.interpolation.proofs.run.interpolant.Goals as goal
 
-pub write_row-requires : goal.write_row-requires
-write_row-requires g c = (c.pivot.ensures.fails c.in-Some.p c.in-Some.is).1
+pub returns-in_err-p-clause-found : goal.returns-in_err-p-clause-found
+returns-in_err-p-clause-found g c =
+    subst
+    (λ (r : Option (List (List ℕ))). Interpolant (g.F.Field.meaning c.args.field.now) c.args.places.now c.args.bounds.l c.args.bounds.bound c.args.bounds.weight (unwrap_or r []) (is_some r))
+    (sym c.from_residual.ensures)
+    (row_none (g.F.Field.meaning c.args.field.now) c.args.places.now c.args.bounds.l c.args.bounds.bound c.args.bounds.weight (rows_of c.interpolate-basis.result) (degrees_of c.interpolate-basis.result) c.pivot.result c.interpolate-basis.ensures c.pivot.ensures [] c.in_err-p.was)
 
-pub returns-in-Some : goal.returns-in-Some
-returns-in-Some g c =
-    record {
-      found = row_found (g.F.Field.meaning c.args.field.now) c.args.places.now c.args.l c.args.bound c.args.weight c.interpolate.new.rows c.interpolate.new.degrees c.pivot.result c.interpolate.ensures c.pivot.ensures c.in-Some.p c.write_row.new.q c.in-Some.is c.write_row.ensures;
-      none = λ e. absurd (true≢false e);
-      kept = λ e. absurd (true≢false e);
-    }
+pub returns-in_err-p-clause-none : goal.returns-in_err-p-clause-none
+returns-in_err-p-clause-none g c e =
+    none_below (g.F.Field.meaning c.args.field.now) c.args.places.now c.args.bounds.l c.args.bounds.bound c.args.bounds.weight (rows_of c.interpolate-basis.result) (degrees_of c.interpolate-basis.result) c.pivot.result c.interpolate-basis.ensures c.pivot.ensures c.in_err-p.was refl
 
-pub returns : goal.returns
-returns g c =
-    record {
-      found = row_none (g.F.Field.meaning c.args.field.now) c.args.places.now c.args.l c.args.bound c.args.weight c.interpolate.new.rows c.interpolate.new.degrees c.pivot.result c.interpolate.ensures c.pivot.ensures _ c.in_default.is;
-      none = none_below (g.F.Field.meaning c.args.field.now) c.args.places.now c.args.l c.args.bound c.args.weight c.interpolate.new.rows c.interpolate.new.degrees c.pivot.result c.interpolate.ensures c.pivot.ensures c.in_default.is;
-      kept = λ _. refl;
-    }
+pub polynomial_at-requires : goal.polynomial_at-requires
+polynomial_at-requires g c = (c.pivot.ensures.fails c.in_ok-p.p c.in_ok-p.was).1
+
+pub returns-clause-found : goal.returns-clause-found
+returns-clause-found g c =
+    row_found (g.F.Field.meaning c.args.field.now) c.args.places.now c.args.bounds.l c.args.bounds.bound c.args.bounds.weight (rows_of c.interpolate-basis.result) (degrees_of c.interpolate-basis.result) c.pivot.result c.interpolate-basis.ensures c.pivot.ensures c.in_ok-p.p _ c.in_ok-p.was c.polynomial_at.ensures

@@ -1,15 +1,17 @@
-use Rattle.std.proofs.Common.{◌≤◌, length, arith}
+use Rattle.std.proofs.Common.{◌∙◌, ap}
+use Rattle.interpolation.specs.Bases.{rows_of, degrees_of}
+use Rattle.interpolation.proofs.BasisLists.{start_rows_are, start_degrees_are}
 use Rattle.interpolation.proofs.LiftedRun.{reached_none, reached_more, reached_all}
 use Rattle.interpolation.proofs.run.interpolate.Goals as goal
 
-pub loop-i-init : goal.loop-i-init
-loop-i-init g c = reached_none (g.F.Field.meaning c.args.field.now) c.args.places.now c.args.l c.args.bound c.args.weight _ _ c.start_rows.ensures c.start_degrees.ensures
+pub loop-place-init : goal.loop-place-init
+loop-place-init g c =
+    reached_none (g.F.Field.meaning c.args.field.now) c.args.places.now c.args.bounds.l c.args.bounds.bound c.args.bounds.weight _ _ (ap rows_of c.start-basis.ensures ∙ start_rows_are _) (ap degrees_of c.start-basis.ensures ∙ start_degrees_are _)
 
-pub loop-i-preserved : goal.loop-i-preserved
-loop-i-preserved g c =
-    reached_more (g.F.Field.meaning c.args.field.now) c.args.places.now c.loop-i.i c.args.l c.args.bound c.args.weight _ c.loop-i.rows c.meet_place.new.rows c.loop-i.degrees c.meet_place.new.degrees c.loop-i-test.true c.loop-i.invariant c.meet_place.ensures
+pub loop-place-preserved : goal.loop-place-preserved
+loop-place-preserved g c =
+    reached_more (g.F.Field.meaning c.args.field.now) c.args.places.now c.loop-place.place-index c.args.bounds.l c.args.bounds.bound c.args.bounds.weight _ (rows_of c.loop-place.basis) (rows_of c.meet_place.new.basis) (degrees_of c.loop-place.basis) (degrees_of c.meet_place.new.basis) c.loop-place-test.true c.loop-place.invariant c.meet_place.ensures
 
 pub returns : goal.returns
 returns g c =
-    let end : length c.args.places.now ≤ c.loop-i.i = omega (arith, c.loop-i-test.false) in
-    reached_all (g.F.Field.meaning c.args.field.now) c.args.places.now c.loop-i.i c.args.l c.args.bound c.args.weight c.loop-i.rows c.loop-i.degrees end c.loop-i.invariant
+    reached_all (g.F.Field.meaning c.args.field.now) c.args.places.now c.loop-place.place-index c.args.bounds.l c.args.bounds.bound c.args.bounds.weight (rows_of c.loop-place.basis) (degrees_of c.loop-place.basis) c.loop-place-test.false c.loop-place.invariant

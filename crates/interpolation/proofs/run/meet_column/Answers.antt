@@ -1,3 +1,4 @@
+use Rattle.interpolation.specs.Bases.{rows_of, degrees_of}
 use Rattle.std.proofs.Common.{◌≡◌, subst, arith}
 use Rattle.interpolation.specs.Runs.{ColumnMet}
 use Rattle.interpolation.proofs.LiftedRun.{column_none, column_more}
@@ -5,25 +6,25 @@ use Rattle.interpolation.proofs.run.meet_column.Goals as goal
 
 pub loop-r-init : goal.loop-r-init
 loop-r-init g c =
-    column_none (g.F.Field.meaning c.args.field.now) c.args.a c.args.b c.args.u c.args.l c.args.bound c.args.weight c.args.rows.now c.args.degrees.now
+    column_none (g.F.Field.meaning c.args.field.now) c.args.place.abscissa c.args.place.ordinate c.args.u c.args.bounds.l c.args.bounds.bound c.args.bounds.weight (rows_of c.args.basis.now) (degrees_of c.args.basis.now)
 
 pub loop-r-preserved : goal.loop-r-preserved
 loop-r-preserved g c =
     column_more
     (g.F.Field.meaning c.args.field.now)
-    c.args.a
-    c.args.b
+    c.args.place.abscissa
+    c.args.place.ordinate
     c.args.u
     c.loop-r.r
-    c.args.l
-    c.args.bound
-    c.args.weight
-    c.args.rows.now
-    c.loop-r.rows
-    c.step.new.rows
-    c.args.degrees.now
-    c.loop-r.degrees
-    c.step.new.degrees
+    c.args.bounds.l
+    c.args.bounds.bound
+    c.args.bounds.weight
+    (rows_of c.args.basis.now)
+    (rows_of c.loop-r.basis)
+    (rows_of c.step.new.basis)
+    (degrees_of c.args.basis.now)
+    (degrees_of c.loop-r.basis)
+    (degrees_of c.step.new.basis)
     c.loop-r.invariant
     c.step.ensures
 
@@ -31,6 +32,6 @@ pub returns : goal.returns
 returns g c =
     let end : c.loop-r.r ≡ c.args.count = omega (arith, c.loop-r-test.false, c.loop-r.auto.r-end) in
     subst
-    (λ n. ColumnMet (g.F.Field.meaning c.args.field.now) c.args.a c.args.b c.args.u n c.args.l c.args.bound c.args.weight c.args.rows.now c.args.degrees.now c.loop-r.rows c.loop-r.degrees)
+    (λ n. ColumnMet (g.F.Field.meaning c.args.field.now) c.args.place.abscissa c.args.place.ordinate c.args.u n c.args.bounds.l c.args.bounds.bound c.args.bounds.weight (rows_of c.args.basis.now) (degrees_of c.args.basis.now) (rows_of c.loop-r.basis) (degrees_of c.loop-r.basis))
     end
     c.loop-r.invariant
