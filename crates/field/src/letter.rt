@@ -1,7 +1,7 @@
 // What every user of a field asks of it, whatever its kind.
 ghost use Rattle.std.specs.Prelude.{◌≡◌, Decides};
 ghost use Rattle.algebra.specs.Operations.{Lawful};
-ghost use Rattle.field.specs.Meaning.{Letter, operations, sum_of, product_of};
+ghost use Rattle.field.specs.Meaning.{Letter, operations};
 
 use crate::Field;
 
@@ -10,13 +10,6 @@ pub fn is_letter<F: Field>(field: &F, a: u16) -> bool
     ensures { Decides result (Letter (F.meaning field.now) a) }
 {
     a < field.size() && a < field.letters()
-}
-
-// The sum a + b·c.
-pub fn multiply_add<F: Field>(field: &F, a: u16, b: u16, c: u16) -> u16
-    ensures { result ≡ sum_of (F.meaning field.now) a (product_of (F.meaning field.now) b c) }
-{
-    field.sum(a, field.product(b, c))
 }
 
 // The laws of any field, gathered as the algebra takes them. It computes nothing: its promise is the theorem.

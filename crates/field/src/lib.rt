@@ -14,7 +14,7 @@ pub mod refusal;
 
 pub use arithmetic::multiply_add;
 pub use binary::BinaryField;
-pub use letter::{is_letter, laws_hold, multiply_add};
+pub use letter::{is_letter, laws_hold};
 pub use prime::PrimeField;
 pub use refusal::FieldFault;
 
