@@ -7,7 +7,8 @@ use Rattle.bivariate.specs.Combinations.{row_length, plus_of, minus_of, times_of
 use Rattle.bivariate.specs.Lifted.{Room}
 use Rattle.bivariate.specs.Roots.{lower_row, lower_of, shift_step_of, raise_row, raise_of}
 use Rattle.bivariate.proofs.Searching.{lower_at, raise_at, shift_at}
-use Rattle.bivariate.proofs.Upto.{made_at, made_past, pick_below, pick_above}
+use Rattle.field.proofs.Making.{made_at, made_past}
+use Rattle.bivariate.proofs.Parts.{pick_below, pick_above}
 use Rattle.bivariate.proofs.Steps.{nested_at}
 use Rattle.bivariate.proofs.Writing.{plus_at, changing}
 

@@ -4,7 +4,8 @@ use Rattle.field.specs.Meaning.{Meaning, sum_of, product_of}
 use Rattle.bivariate.specs.Horner.{entries, taylor_of, coefficient_of}
 use Rattle.bivariate.specs.Combinations.{term_of, term_within, terms_of, discrepancy_of}
 use Rattle.bivariate.proofs.Steps.{taylor_zero, taylor_suc_zero, taylor_suc_suc}
-use Rattle.bivariate.proofs.Upto.{made_at, pick_below, pick_same}
+use Rattle.field.proofs.Making.{made_at}
+use Rattle.bivariate.proofs.Parts.{pick_below, pick_same}
 
 module _ (m : Meaning) (a : ℕ) (cs ds : ℕ → ℕ) where
   -- an expansion goes by its coefficients alone

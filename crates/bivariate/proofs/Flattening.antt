@@ -5,7 +5,8 @@ use lib.ListN.{length-replicate, get_or-replicate}
 use Rattle.std.proofs.lemmas.List.{get_or_past, get_or-take, get_or-drop, get_or_append_left, get_or-append_right, length-take, length-drop, length-append}
 use Rattle.std.proofs.lemmas.Bool.{cases_lt}
 use Rattle.bivariate.specs.Flat.{cleared_of, pasted_of, rows_of, flat_of}
-use Rattle.bivariate.proofs.Upto.{Upto, upto_none, upto_all, part_all, length_made, made_at, made_past, made_is, pick_below, pick_above}
+use Rattle.field.proofs.Making.{Upto, upto_none, upto_all, length_made, made_at, made_past, made_is}
+use Rattle.bivariate.proofs.Parts.{part_all, pick_below, pick_above}
 
 module _ (count : ℕ) (was : List ℕ) where
   abbrev pub clear_at : ℕ → ℕ

@@ -8,7 +8,7 @@ pub mod LiftedRoots
 pub mod LiftedSizes
 pub mod LiftedValues
 pub mod Monomials
+pub mod Parts
 pub mod Searching
 pub mod Steps
-pub mod Upto
 pub mod Writing

@@ -19,7 +19,7 @@ use Rattle.algebra.proofs.Head.{is_less}
 use Rattle.algebra.proofs.Taylor.{taylor_bound}
 use Rattle.algebra.proofs.KoetterRefinement.{discrepancy_nested, is_x_minus, is_y_power}
 use Rattle.field.specs.Meaning.{Meaning, operations, negative_of}
-use Rattle.bivariate.specs.Made.{made}
+use Rattle.field.specs.Made.{made}
 use Rattle.bivariate.specs.Horner.{entries, before, coefficient_of}
 use Rattle.bivariate.specs.Combinations.{row_length, discrepancy_of, plus_of, minus_of, times_of, minus_polynomial_of, times_polynomial_of, y_power_of}
 use Rattle.bivariate.specs.Lifted.{polynomial_of, PolynomialOf, RowOf, Within, Narrow, Spare, Sized}
@@ -28,7 +28,7 @@ use Rattle.bivariate.proofs.FieldNumbers.{zero_element, sum_element, negative_el
 use Rattle.bivariate.proofs.LiftedValues.{coefficient_lift, coefficient_element}
 use Rattle.bivariate.proofs.Entries.{row_length_256, row_length_bound, plus_below, plus_above, plus_keeps, minus_as_plus, times_below, times_above, changed_below, changed_above}
 use Rattle.bivariate.proofs.Monomials.{unit_at, unit_here, unit_other_row, unit_other_place}
-use Rattle.bivariate.proofs.Upto.{made_at, made_past}
+use Rattle.field.proofs.Making.{made_at, made_past}
 
 module _ (m : Meaning) (law : Lawful (operations m)) where
   abbrev o : Operations

@@ -17,7 +17,7 @@ use Rattle.bivariate.specs.Horner.{entries, value_of, taylor_of, coefficient_of,
 use Rattle.bivariate.specs.Lifted.{series_of, RowOf}
 use Rattle.bivariate.proofs.Steps.{value_suc, value_zero, taylor_zero, taylor_suc_zero, taylor_suc_suc, expansion_at, expansion_past, expansion_outside}
 use Rattle.bivariate.proofs.FieldNumbers.{zero_element, sum_element, into_multiple}
-use Rattle.bivariate.proofs.Upto.{pick_below, pick_above}
+use Rattle.bivariate.proofs.Parts.{pick_below, pick_above}
 
 module _ (m : Meaning) (law : Lawful (operations m)) where
   abbrev o : Operations

@@ -2,9 +2,9 @@
 use Rattle.std.proofs.Common.{◌≡◌, ℕ, ◌<◌, ◌≤◌, cond, ◌&&◌, eqb, ◌⊎◌, List, [], length, get_or, set, replicate, sym, ap, ◌∙◌, inl, inr, arith, length-set, get_or-set_other, get_or-set_same}
 use lib.ListN.{length-replicate, get_or-replicate}
 use Rattle.std.proofs.lemmas.Bool.{cases_eq, cond-true, cond-false, eq-eqb, ne_eqb, and_from, and_left, and_right}
-use Rattle.bivariate.specs.Made.{made}
+use Rattle.field.specs.Made.{made}
 use Rattle.bivariate.specs.Combinations.{zero_of, y_power_of}
-use Rattle.bivariate.proofs.Upto.{made_is, made_at, made_same, length_made}
+use Rattle.field.proofs.Making.{made_is, made_at, made_same, length_made}
 
 pub replicate_made : {X : Type 0} (n : ℕ) (x d : X) → replicate n x ≡ made n (λ _. x)
 replicate_made n x d = made_is (λ _. x) (replicate n x) n d (length-replicate n x) (λ k h. get_or-replicate n k x d h)

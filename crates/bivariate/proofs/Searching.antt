@@ -11,7 +11,8 @@ use Rattle.bivariate.specs.Combinations.{row_length, plus_of}
 use Rattle.bivariate.specs.Roots.{column, all_zero, column_value_of, lower_row, raise_row, shift_step_of, shift_of}
 use Rattle.bivariate.proofs.Backwards.{Left, left_all, left_more, left_read, left_length, length_first}
 use Rattle.bivariate.proofs.Steps.{value_none, value_suc}
-use Rattle.bivariate.proofs.Upto.{Upto, upto_none, upto_from, upto_write, upto_all, upto_here, made_is, pick_below, pick_above}
+use Rattle.field.proofs.Making.{Upto, upto_none, upto_from, upto_write, upto_all, upto_here, made_is}
+use Rattle.bivariate.proofs.Parts.{pick_below, pick_above}
 
 module _ (f : ℕ → ℕ) where
   pub all_zero_none : all_zero f 0 ≡ true

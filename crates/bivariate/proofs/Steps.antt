@@ -4,7 +4,8 @@ use Rattle.std.proofs.lemmas.List.{length-take}
 use Rattle.field.specs.Meaning.{Meaning, sum_of, product_of}
 use lib.ListN.{length-replicate, get_or-replicate}
 use Rattle.bivariate.proofs.Backwards.{Left, left_all, left_more, left_read, left_length, length_first}
-use Rattle.bivariate.proofs.Upto.{Part, part_none, part_here, part_write, part_all, made_at, made_past, made_is, made_same, pick_below, pick_above, pick_same}
+use Rattle.field.proofs.Making.{made_at, made_past, made_is, made_same}
+use Rattle.bivariate.proofs.Parts.{Part, part_none, part_here, part_write, part_all, pick_below, pick_above, pick_same}
 use Rattle.bivariate.specs.Horner.{entries, value_of, taylor_of, before, nested_of, pushed, expansion_of, coefficient_of}
 
 module _ (m : Meaning) (a : ℕ) (cs : ℕ → ℕ) where

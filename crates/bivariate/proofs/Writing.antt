@@ -4,7 +4,8 @@ use Rattle.std.proofs.lemmas.List.{length-take}
 use Rattle.field.specs.Meaning.{Meaning, sum_of, product_of}
 use Rattle.bivariate.specs.Combinations.{row_length, plus_of, minus_of, times_of, changed, minus_polynomial_of, times_polynomial_of}
 use Rattle.bivariate.specs.Roots.{lower_row, lower_of, raise_row, raise_of}
-use Rattle.bivariate.proofs.Upto.{Part, part_here, part_write, part_all, Upto, upto_none, upto_here, upto_write, upto_all, pick_below, pick_above}
+use Rattle.field.proofs.Making.{Upto, upto_none, upto_here, upto_write, upto_all}
+use Rattle.bivariate.proofs.Parts.{Part, part_here, part_write, part_all, pick_below, pick_above}
 
 pub row_length_is : (bound weight c product difference result : ℕ)
     → bound < 2 ^ 64

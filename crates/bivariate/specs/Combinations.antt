@@ -1,7 +1,7 @@
 -- Sums and multiples of rows and of polynomials in x and y over the numbers of a field.
 use Rattle.std.specs.Prelude.{ℕ, ◌-◌, ◌*◌, min, cond, ◌&&◌, List, [], ◌==◌, nat_lt, slice_index, slice_index_or}
 use Rattle.field.specs.Meaning.{Meaning, sum_of, negative_of, product_of}
-use Rattle.bivariate.specs.Made.{made}
+use Rattle.field.specs.Made.{made}
 use Rattle.bivariate.specs.Horner.{nested_of, entries, coefficient_of}
 
 -- how many coefficients row c has where x weighs 1, y weighs weight and the weighted degree is below bound

@@ -1,6 +1,6 @@
 -- A polynomial in x and y as one list of numbers, row after row.
 use Rattle.std.specs.Prelude.{ℕ, ◌+◌, ◌-◌, ◌*◌, ◌/◌, ◌%◌, min, cond, List, [], length, nat_lt, slice_index, slice_index_or}
-use Rattle.bivariate.specs.Made.{made}
+use Rattle.field.specs.Made.{made}
 
 -- the list with its first count numbers 0
 unfoldable pub cleared_of : ℕ → List ℕ → List ℕ

@@ -1,7 +1,7 @@
 -- Values and expansions of polynomials in one variable over the numbers of a field, by Horner's rule.
 use Rattle.std.specs.Prelude.{ℕ, zero, suc, cond, List, nat_lt, slice_index}
 use Rattle.field.specs.Meaning.{Meaning, sum_of, product_of}
-use Rattle.bivariate.specs.Made.{made}
+use Rattle.field.specs.Made.{made}
 
 -- the coefficients of a row, 0 past its end
 abbrev pub entries : List ℕ → ℕ → ℕ

@@ -2,5 +2,4 @@ pub mod Combinations
 pub mod Flat
 pub mod Horner
 pub mod Lifted
-pub mod Made
 pub mod Roots

@@ -1,7 +1,7 @@
 -- Divisions by x, values and substitutions in y, as the search for roots wants them.
 use Rattle.std.specs.Prelude.{ℕ, zero, suc, ◌-◌, min, Bool, true, cond, ◌&&◌, List, [], ◌==◌, nat_lt, slice_index, slice_index_or}
 use Rattle.field.specs.Meaning.{Meaning}
-use Rattle.bivariate.specs.Made.{made}
+use Rattle.field.specs.Made.{made}
 use Rattle.bivariate.specs.Horner.{value_of}
 use Rattle.bivariate.specs.Combinations.{row_length, plus_of, changed}
 

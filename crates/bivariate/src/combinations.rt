@@ -7,7 +7,7 @@ use crate::values::multiply_x_plus;
 use field::{Field, multiply_add};
 
 // Adds the multiple of the source by the factor to the target, in the first len coefficients.
-#[tactic(auto, using(crate::proofs::Upto::part_none, crate::proofs::Writing::plus_more, crate::proofs::Writing::plus_all))]
+#[tactic(auto, using(crate::proofs::Parts::part_none, crate::proofs::Writing::plus_more, crate::proofs::Writing::plus_all))]
 pub(crate) fn add_multiple<F: Field>(
     field: &F,
     target: &mut Row,
@@ -37,7 +37,7 @@ pub fn subtract_multiple<F: Field>(
 }
 
 // Subtracts the multiple of the source by the factor from the target, within the bounds.
-#[tactic(auto, using(crate::proofs::Upto::part_none, crate::proofs::Writing::minus_more, crate::proofs::Writing::minus_all))]
+#[tactic(auto, using(crate::proofs::Parts::part_none, crate::proofs::Writing::minus_more, crate::proofs::Writing::minus_all))]
 pub fn subtract_polynomial<F: Field>(
     field: &F,
     target: &mut Polynomial,
@@ -61,7 +61,7 @@ pub fn multiply_x_minus<F: Field>(field: &F, row: &mut Row, a: u16, len: usize)
 }
 
 // Multiplies the polynomial by x − a, within the bounds of the product.
-#[tactic(auto, using(crate::proofs::Upto::part_none, crate::proofs::Writing::times_more, crate::proofs::Writing::times_all))]
+#[tactic(auto, using(crate::proofs::Parts::part_none, crate::proofs::Writing::times_more, crate::proofs::Writing::times_all))]
 pub fn multiply_polynomial<F: Field>(field: &F, q: &mut Polynomial, a: u16, bounds: Bounds)
     ensures { q.new ≡ times_polynomial_of (F.meaning field.now) a bounds.l bounds.bound bounds.weight q.old }
 {

@@ -29,7 +29,7 @@ fn term<F: Field>(field: &F, q: &Polynomial, bounds: Bounds, a: u16, r: usize, c
 }
 
 // The coefficients of x^r of the rows at a + x, and 0 for the rows that are not worked on.
-#[tactic(auto, unfolding(crate::specs::Combinations::terms_of, crate::specs::Made::made))]
+#[tactic(auto, unfolding(crate::specs::Combinations::terms_of, field::specs::Made::made))]
 fn terms<F: Field>(field: &F, q: &Polynomial, bounds: Bounds, a: u16, r: usize) -> [u16; 8]
     ensures { result ≡ terms_of (F.meaning field.now) q.now bounds.l bounds.bound bounds.weight a r }
 {

@@ -1,6 +1,7 @@
 -- The steps of a listing put together: what each step promises gives what the listing promises.
-use Rattle.std.proofs.Common.{◌≡◌, ℕ, suc, ◌-◌, ◌*◌, ◌<◌, ◌≤◌, Bool, List, [], ◌++◌, map, length, get_or, take, drop, None, sym, ap, ◌∙◌, subst, mul-le-mul, arith}
-use Rattle.std.proofs.lemmas.List.{length-map, length-take-le}
+use Rattle.std.proofs.Common.{◌≡◌, ℕ, suc, ◌-◌, ◌*◌, ◌<◌, ◌≤◌, Bool, List, [], ◌++◌, map, length, get_or, take, drop, None, sym, ap, ◌∙◌, subst, ap₂, mul-le-mul, arith}
+use Rattle.std.proofs.lemmas.List.{length-map}
+use Rattle.std.proofs.lemmas.List.Sorted.{length_permutation}
 use Rattle.std.specs.List.Sorted.{IsPermutation}
 use Rattle.fault.specs.First.{First}
 use Rattle.algebra.specs.Operations.{Lawful}
@@ -38,7 +39,7 @@ module _ (p : Plan) (m : Meaning) (law : Lawful (operations m)) (heard list work
   weight_small : weight_of p < 64
   weight_small = let h : p.n ≤ 64 = p.n_high in let k : 2 ≤ p.n = p.n_low in omega arith
 
-  module _ (l bound degree tested : ℕ) (cs : List (List ℕ)) (el : l ≡ p.l) (eb : bound ≡ width_of p) (ed : degree ≡ weight_of p) (finds : Finds m q l bound degree cs tested) where
+  module _ (l bound degree tested : ℕ) (cs : List (List ℕ)) (el : l ≡ p.l) (eb : bound ≡ width_of p) (ed : degree ≡ weight_of p) (et : tested ≡ length cs) (finds : Finds m q l bound degree cs tested) where
     -- the roots that the search finds
     found : Found m law q p.l (weight_of p) cs tested
     found =
@@ -53,13 +54,16 @@ module _ (p : Plan) (m : Meaning) (law : Lawful (operations m)) (heard list work
         sized
         serves.0.nonzero
 
-    -- there are at most seven candidates
-    pub tested_few : tested ≤ 7
-    tested_few = let f = found.few in let h : p.l ≤ 8 = p.l_high in omega arith
-
     -- so many words fit into the list
-    pub words_fit : (words n : ℕ) → words ≤ tested → n ≡ p.n → words * n ≤ length list
-    words_fit words n h e =
+    pub words_fit : (kept sorted : List (List ℕ)) (n : ℕ)
+        → Kept p m heard cs (length cs) kept
+        → IsPermutation kept sorted
+        → n ≡ p.n
+        → length sorted * n ≤ length list
+    words_fit kept sorted n keeps shuffled e =
+        let words : ℕ = length sorted in
+        let k : length sorted ≡ length kept = length_permutation kept sorted shuffled in
+        let few : length kept ≤ length cs = keeps.few in
         let f : tested < p.l = found.few in
         let a : words * n ≤ (p.l - 1) * p.n = mul-le-mul {n₁ = words} {m₁ = n} {n₂ = p.l - 1} {m₂ = p.n} (omega arith) (omega arith) in
         let r = ready_room p m heard (length list) (length workspace) good in
@@ -98,14 +102,11 @@ module _ (p : Plan) (m : Meaning) (law : Lawful (operations m)) (heard list work
             count = found.many;
           }
 
-      module _ (words n : ℕ) (kept sorted : List (List ℕ)) (list' : List ℕ) (en : n ≡ p.n) (tall : length kept ≡ 7) (tall' : length sorted ≡ 7) (keeps : Kept p m heard cs tested (take words kept)) (few : words ≤ tested) (shuffled : IsPermutation (take words kept) (take words sorted)) (rises : Sorted (take words sorted) words) (put : list' ≡ joined (map (take n) (take words sorted)) ++ drop (words * n) list) where
-        sorted_long : length (take words sorted) ≡ words
-        sorted_long = length-take-le words sorted (let h = tested_few in omega arith)
-
+      module _ (words n : ℕ) (kept sorted : List (List ℕ)) (list' : List ℕ) (en : n ≡ p.n) (ew : words ≡ length sorted) (keeps : Kept p m heard cs (length cs) kept) (shuffled : IsPermutation kept sorted) (rises : Sorted sorted (length sorted)) (put : list' ≡ joined (map (take n) sorted) ++ drop (length sorted * n) list) where
         listed : Listed p m heard list list' words
         listed =
             record {
-              near = map (take p.n) (take words sorted);
+              near = map (take p.n) sorted;
               nearby =
                   nearby
                   p
@@ -120,13 +121,13 @@ module _ (p : Plan) (m : Meaning) (law : Lawful (operations m)) (heard list work
                   found.roots
                   found.all
                   (λ i h. found.coefficients i (subst (λ (k : ℕ). i < k) found.many h))
-                  (take words kept)
-                  (take words sorted)
-                  (subst (λ k. Kept p m heard cs k (take words kept)) (sym found.many) keeps)
+                  kept
+                  sorted
+                  (subst (λ k. Kept p m heard cs k kept) (sym (found.many ∙ et)) keeps)
                   shuffled
-                  (subst (Sorted (take words sorted)) (sym sorted_long) rises);
-              count = length-map (take words sorted) (take p.n) ∙ sorted_long;
-              written = put ∙ ap (λ k. joined (map (take k) (take words sorted)) ++ drop (words * k) list) en;
+                  rises;
+              count = length-map sorted (take p.n) ∙ sym ew;
+              written = put ∙ ap₂ (λ k c. joined (map (take k) sorted) ++ drop (c * k) list) en (sym ew);
             }
 
         -- the listing does what it promises

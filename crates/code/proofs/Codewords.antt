@@ -20,8 +20,8 @@ use Rattle.poly.specs.Interpolation.{Through}
 use Rattle.poly.proofs.Elementary as elementary
 use Rattle.poly.proofs.Scaling.{back_scaled}
 use Rattle.poly.proofs.Uniqueness.{one_through}
-use Rattle.bivariate.specs.Made.{made}
-use Rattle.bivariate.proofs.Upto.{length_made, made_at, made_past}
+use Rattle.field.specs.Made.{made}
+use Rattle.field.proofs.Making.{length_made, made_at, made_past}
 use Rattle.code.specs.Codes.{support_of, multipliers_of, Letters, Evaluates, InCode}
 use Rattle.code.specs.Decoding.{letter_of, evaluated_of, Near}
 use Rattle.code.specs.Listing.{distance, weight_of, points, ordinates}

@@ -19,7 +19,7 @@ use Rattle.algebra.proofs.MultiplicityBounds.{multiplicity_bound}
 use Rattle.field.specs.Meaning.{Meaning, operations}
 use Rattle.plan.specs.declared.Plan.{Plan}
 use Rattle.plan.proofs.Facts as facts
-use Rattle.bivariate.specs.Made.{made}
+use Rattle.field.specs.Made.{made}
 use Rattle.bivariate.specs.Lifted.{polynomial_of, Sized}
 use Rattle.bivariate.proofs.LiftedSizes.{weighted_within, below_narrow}
 use Rattle.interpolation.specs.Runs.{Interpolant}

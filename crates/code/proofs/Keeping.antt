@@ -1,6 +1,5 @@
 -- The steps of the loop that keeps the words near the word heard.
-use Rattle.std.proofs.Common.{◌≡◌, ℕ, ◌+◌, ◌<◌, ◌≤◌, List, [], ◌∷◌, ◌++◌, length, take, drop, set, sym, ap, ◌∙◌, subst, inl, inr, ⊎_elim, arith, length-append, length-set}
-use Rattle.std.proofs.lemmas.List.{take_more_set, drop-set-lt, drop-drop}
+use Rattle.std.proofs.Common.{◌≡◌, ℕ, ◌+◌, ◌<◌, ◌≤◌, List, [], ◌∷◌, ◌++◌, length, sym, ap, ◌∙◌, subst, inl, inr, ⊎_elim, arith, length-append}
 use Rattle.std.proofs.lemmas.Bool.{cases_eq}
 use Rattle.algebra.specs.Members.{Member, NoRepetition}
 use Rattle.algebra.proofs.ListMembers.{member_left, member_last, member_append, no_repetition_append}
@@ -75,58 +74,43 @@ module _ (p : Plan) (m : Meaning) (heard : List ℕ) (cs : List (List ℕ)) wher
           once = λ d. k.once (λ a b l h. d a b l (omega arith));
         }
 
-  module _ (was : List (List ℕ)) where
-    -- what is known after the candidates before i: the words kept stand at the start of an array for seven, and the rest of it is as it was
-    abbrev pub Keeping : ℕ → ℕ → List (List ℕ) → Type 0
-    Keeping i count words =
-        Kept p m heard cs i (take count words) × (count ≤ i) × (length words ≡ 7) × (drop count words ≡ drop count was)
+-- the words kept of the candidates before i
+unfoldable pub Keeping : Plan → Meaning → List ℕ → List (List ℕ) → ℕ → List (List ℕ) → Type 0
+Keeping p m heard cs i ws = Kept p m heard cs i ws
 
-    pub keeping_more : (i count count' : ℕ) (words words' : List (List ℕ)) (w : List ℕ)
-        → i < 7
-        → Keeping i count words
-        → w ≡ word i
-        → Near p m heard w
-        → words' ≡ set words count w
-        → count' ≡ count + 1
-        → Keeping (i + 1) count' words'
-    keeping_more i count count' words words' w h k e near is at =
-        let few : count ≤ i = k.1 in
-        let long : length words ≡ 7 = k.2 in
-        subst (λ xs. Keeping (i + 1) count' xs) (sym is) (subst (λ n. Keeping (i + 1) n (set words count w)) (sym at) (
-          subst
-              (Kept p m heard cs (i + 1))
-              (ap (λ v. take count words ++ (v ∷ [])) (sym e) ∙ sym (take_more_set words count w (omega arith)))
-              (kept_more i (take count words) k.0 (subst (Near p m heard) e near)),
-          omega arith,
-          length-set words count w ∙ k.2,
-          drop-set-lt (count + 1) words count w (omega arith)
-              ∙ sym (drop-drop 1 count words)
-              ∙ ap (drop 1) k.3
-              ∙ drop-drop 1 count was,
-        ))
+module _ (p : Plan) (m : Meaning) (heard : List ℕ) (cs : List (List ℕ)) where
+  pub keeping_none : Keeping p m heard cs 0 []
+  unfolding Keeping
+  keeping_none = kept_none p m heard cs
 
-    pub keeping_less : (i count count' : ℕ) (words words' : List (List ℕ)) (w : List ℕ)
-        → Keeping i count words
-        → w ≡ word i
-        → (Near p m heard w → ⊥)
-        → words' ≡ words
-        → count' ≡ count
-        → Keeping (i + 1) count' words'
-    keeping_less i count count' words words' w k e far is at =
-        let few : count ≤ i = k.1 in
-        subst (λ xs. Keeping (i + 1) count' xs) (sym is) (subst (λ n. Keeping (i + 1) n words) (sym at) (
-          kept_less i (take count words) k.0 (λ n. far (subst (Near p m heard) (sym e) n)),
-          omega arith,
-          k.2,
-          k.3,
-        ))
+  -- there are no more words than candidates
+  pub keeping_room : (i : ℕ) (ws : List (List ℕ)) → Keeping p m heard cs i ws → i < length cs → length cs ≤ 7 → length ws < 7
+  unfolding Keeping
+  keeping_room i ws k h l = let few : length ws ≤ i = k.few in omega arith
 
-    pub keeping_all : (i count tested : ℕ) (words : List (List ℕ))
-        → tested ≤ i
-        → i ≤ tested
-        → Keeping i count words
-        → Kept p m heard cs tested (take count words) × (count ≤ tested) × (drop count words ≡ drop count was)
-    keeping_all i count tested words h l k =
-        let e : i ≡ tested = omega arith in
-        let few : count ≤ i = k.1 in
-        (subst (λ j. Kept p m heard cs j (take count words)) e k.0, omega arith, k.3)
+  pub keeping_more : (i : ℕ) (ws next : List (List ℕ)) (w : List ℕ)
+      → Keeping p m heard cs i ws
+      → w ≡ candidate_of p m cs i
+      → Near p m heard w
+      → next ≡ ws ++ w ∷ []
+      → Keeping p m heard cs (i + 1) next
+  unfolding Keeping
+  keeping_more i ws next w k e near is =
+      subst
+      (Kept p m heard cs (i + 1))
+      (ap (λ v. ws ++ (v ∷ [])) (sym e) ∙ sym is)
+      (kept_more p m heard cs i ws k (subst (Near p m heard) e near))
+
+  pub keeping_less : (i : ℕ) (ws next : List (List ℕ)) (w : List ℕ)
+      → Keeping p m heard cs i ws
+      → w ≡ candidate_of p m cs i
+      → (Near p m heard w → ⊥)
+      → next ≡ ws
+      → Keeping p m heard cs (i + 1) next
+  unfolding Keeping
+  keeping_less i ws next w k e far is =
+      subst (Kept p m heard cs (i + 1)) (sym is) (kept_less p m heard cs i ws k (λ n. far (subst (Near p m heard) (sym e) n)))
+
+  pub keeping_all : (i : ℕ) (ws : List (List ℕ)) → length cs ≤ i → i ≤ length cs → Keeping p m heard cs i ws → Kept p m heard cs (length cs) ws
+  unfolding Keeping
+  keeping_all i ws h l k = let e : i ≡ length cs = omega arith in subst (λ j. Kept p m heard cs j ws) e k

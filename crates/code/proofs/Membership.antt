@@ -1,5 +1,5 @@
 -- A word is in the code exactly if its content extends to it.
-use Rattle.std.proofs.Common.{◌≡◌, ℕ, ◌-◌, ◌<◌, ◌≤◌, Bool, List, length, take, None, Decides, sym, ap, subst, arith}
+use Rattle.std.proofs.Common.{◌≡◌, ℕ, ◌-◌, ◌<◌, Bool, List, length, take, None, Decides, sym, ap, subst, arith}
 use Rattle.std.proofs.lemmas.List.{length-take-le, get_or-take}
 use Rattle.fault.specs.First.{First}
 use Rattle.field.specs.Meaning.{Meaning}
@@ -7,7 +7,7 @@ use Rattle.plan.specs.declared.Plan.{Plan}
 use Rattle.code.specs.Codes.{Letters, InCode, content_of, WordOf}
 use Rattle.code.specs.Extension.{Extends}
 use Rattle.code.specs.Faults.{refusal_of, CheckFails}
-use Rattle.code.proofs.Reading.{same_size, same_length, letters}
+use Rattle.code.proofs.Reading.{same_length, letters}
 
 module _ (p : Plan) (m : Meaning) where
   -- what has the code's form and is made of letters is in the code
@@ -22,31 +22,28 @@ module _ (p : Plan) (m : Meaning) where
   word_of content e x l = record { member = member content e x l; begins = x.begins; only = one content e x }
 
   module _ (word : List ℕ) (good : First refusal_of (CheckFails p m word) None) where
-    pub long_enough : (k : ℕ) → k ≡ p.n - p.t → k ≤ length word
-    long_enough k e = omega (arith, same_length p m p.n word good)
+    pub long_enough : (k : ℕ) → k ≡ p.n - p.t → k ≡ length (take k word)
+    long_enough k e = sym (length-take-le k word (omega (arith, same_length p m p.n word good)))
 
     -- the content as a part of the word
-    part : (k : ℕ) → k ≡ p.n - p.t → take (k - 0) word ≡ content_of p word
-    part k e = let z : k - 0 ≡ p.n - p.t = omega arith in ap (λ x. take x word) z
+    part : (k : ℕ) → k ≡ p.n - p.t → take k word ≡ content_of p word
+    part k e = ap (λ x. take x word) e
 
-    content_read : (p.size ≡ m.size) × ((length (content_of p word) ≡ p.n - p.t) × Letters m (content_of p word))
+    content_read : (length (content_of p word) ≡ p.n - p.t) × Letters m (content_of p word)
     content_read =
         let n = same_length p m p.n word good in
         let k = length-take-le (p.n - p.t) word (omega arith) in (
-          same_size p m p.n word good,
-          (
-            k,
-            λ i h.
-                let l : i < p.n - p.t = omega arith in
-                let j : i < length word = omega arith in
-                let e = get_or-take (p.n - p.t) word i 0 l in
-                let q = letters p m p.n word good i j in
-                (omega (arith, e, q.0), omega (arith, e, q.1)),
-          ),
+          k,
+          λ i h.
+              let l : i < p.n - p.t = omega arith in
+              let j : i < length word = omega arith in
+              let e = get_or-take (p.n - p.t) word i 0 l in
+              let q = letters p m p.n word good i j in
+              (omega (arith, e, q.0), omega (arith, e, q.1)),
         )
 
-    pub part_read : (k : ℕ) → k ≡ p.n - p.t → (p.size ≡ m.size) × ((length (take (k - 0) word) ≡ p.n - p.t) × Letters m (take (k - 0) word))
-    part_read k e = subst (λ xs. (p.size ≡ m.size) × ((length xs ≡ p.n - p.t) × Letters m xs)) (sym (part k e)) content_read
+    pub part_read : (k : ℕ) → k ≡ p.n - p.t → (length (take k word) ≡ p.n - p.t) × Letters m (take k word)
+    part_read k e = subst (λ xs. (length xs ≡ p.n - p.t) × Letters m xs) (sym (part k e)) content_read
 
-    pub decides : (k : ℕ) → k ≡ p.n - p.t → (e : List ℕ) (b : Bool) → Extends p m (take (k - 0) word) e → Decides b (e ≡ word) → Decides b (InCode p m word)
+    pub decides : (k : ℕ) → k ≡ p.n - p.t → (e : List ℕ) (b : Bool) → Extends p m (take k word) e → Decides b (e ≡ word) → Decides b (InCode p m word)
     decides k q e b x d = (λ t. subst (InCode p m) (d.0 t) (member _ e x (subst (Letters m) (sym (d.0 t)) (letters p m p.n word good))), λ i. d.1 (sym (one _ e x word i (sym (part k q)))))

@@ -8,7 +8,7 @@ use Rattle.plan.specs.Checks.{FirstBad}
 use Rattle.code.specs.declared.refusal.CodeFault.TheVariants.{Field, Length, Letter}
 use Rattle.code.specs.Codes.{Letters}
 use Rattle.code.specs.Faults.{refusal_of, NoLetter, ReadFails}
-use Rattle.code.proofs.Order.{No, first_letter, no_fault}
+use Rattle.code.proofs.Order.{first_field, first_length, first_letter, no_fault}
 
 -- whether a number is a letter can be decided
 letter_stands : (m : Meaning) (a : ℕ) → ((IsLetter m a → ⊥) → ⊥) → IsLetter m a
@@ -28,11 +28,19 @@ pub only_letters : (m : Meaning) (xs : List ℕ) → FirstBad (NoLetter m xs) (l
 only_letters m xs h = (λ e. all_letters m xs h, λ l. refl)
 
 module _ (p : Plan) (m : Meaning) (long : ℕ) (xs : List ℕ) where
-  pub at_letter : No (ReadFails p m long xs) Field → No (ReadFails p m long xs) Length → (i : ℕ) → FirstBad (NoLetter m xs) (length xs) (Some i) → Judged refusal_of (ReadFails p m long xs) (Some (Letter i))
-  at_letter a l i h = first_letter (ReadFails p m long xs) a (λ z. z) l i (h.0, h.1) (λ j k f. h.2 j k f.1)
+  -- a plan for a field of another size
+  pub read_field : (p.size ≡ m.size → ⊥) → Judged refusal_of (ReadFails p m long xs) (Some Field)
+  read_field ne = first_field (ReadFails p m long xs) ne
 
-  pub at_none : No (ReadFails p m long xs) Field → No (ReadFails p m long xs) Length → FirstBad (NoLetter m xs) (length xs) None → Judged refusal_of (ReadFails p m long xs) None
-  at_none a l h = no_fault (ReadFails p m long xs) a (λ z. z) l (λ i f. h i f.0 f.1) (λ z. z) (λ z. z) (λ z. z)
+  pub read_length : p.size ≡ m.size → (length xs ≡ long → ⊥) → Judged refusal_of (ReadFails p m long xs) (Some Length)
+  read_length s ne = first_length (ReadFails p m long xs) (λ z. z s) (λ z. z) ne
+
+  pub read_letter : (i : ℕ) → p.size ≡ m.size → ((length xs ≡ long → ⊥) → ⊥) → FirstBad (NoLetter m xs) (length xs) (Some i) → Judged refusal_of (ReadFails p m long xs) (Some (Letter i))
+  read_letter i s l h = first_letter (ReadFails p m long xs) (λ z. z s) (λ z. z) l i (h.0, h.1) (λ j k f. h.2 j k f.1)
+
+  pub read_all : p.size ≡ m.size → ((length xs ≡ long → ⊥) → ⊥) → FirstBad (NoLetter m xs) (length xs) None → Judged refusal_of (ReadFails p m long xs) None
+  read_all s l h =
+      no_fault (ReadFails p m long xs) (λ z. z s) (λ z. z) l (λ i f. h i f.0 f.1) (λ z. z) (λ z. z) (λ z. z)
 
   pub same_size : First refusal_of (ReadFails p m long xs) None → p.size ≡ m.size
   same_size h = ⊎_elim (λ e. e) (λ ne. absurd (h Field ne)) (cases_eq p.size m.size)

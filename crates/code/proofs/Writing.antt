@@ -12,7 +12,7 @@ use Rattle.code.specs.Codes.{Letters, InCode, content_of, WordOf, Written}
 use Rattle.code.specs.Extension.{Extends, last_fault}
 use Rattle.code.specs.Faults.{refusal_of, ReadFails, WriteFails}
 use Rattle.code.proofs.Order.{first_field, first_length, first_letter, first_content, first_room, no_fault}
-use Rattle.code.proofs.Reading.{same_size, same_length, letters}
+use Rattle.code.proofs.Reading.{same_length, letters}
 use Rattle.code.proofs.Membership.{one, word_of}
 
 module _ (p : Plan) (m : Meaning) (content : List ℕ) (room : ℕ) where
@@ -33,8 +33,8 @@ module _ (p : Plan) (m : Meaning) (content : List ℕ) (room : ℕ) where
     good : First refusal_of (ReadFails p m (p.n - p.t) content) None
     good = subst (λ x. First refusal_of (ReadFails p m x content) None) e read.first
 
-    pub content_read : (p.size ≡ m.size) × ((length content ≡ p.n - p.t) × Letters m content)
-    content_read = (same_size p m (p.n - p.t) content good, (same_length p m (p.n - p.t) content good, letters p m (p.n - p.t) content good))
+    pub content_read : (length content ≡ p.n - p.t) × Letters m content
+    content_read = (same_length p m (p.n - p.t) content good, letters p m (p.n - p.t) content good)
 
     module _ (xs : List ℕ) (ext : Extends p m content xs) (b : Bool) (whole : Decides b (Letters m xs)) where
       no_word : b ≡ false → (w : List ℕ) → InCode p m w → content_of p w ≡ content → ⊥
@@ -65,15 +65,14 @@ module _ (p : Plan) (m : Meaning) (content : List ℕ) (room : ℕ) where
 -- the word in front of what stood in the place
 pub put : (p : Plan) (n : ℕ) (word place part : List ℕ)
     → n ≡ p.n
-    → part ≡ take (n - 0) word
+    → part ≡ take n word
     → (m : Meaning) (content : List ℕ)
     → WordOf p m content (take p.n word)
-    → Written p m content place (part ++ drop (n - 0) place)
+    → Written p m content place (part ++ drop n place)
 put p n word place part e c m content w =
-    let z : n - 0 ≡ p.n = omega arith in
-    let q : part ≡ take p.n word = c ∙ ap (λ x. take x word) z in
+    let q : part ≡ take p.n word = c ∙ ap (λ x. take x word) e in
     let l : length part ≡ p.n = ap length q ∙ w.member.long in
     record {
-      word = subst (WordOf p m content) (sym (take_at part (drop (n - 0) place) p.n l ∙ q)) w;
-      rest = drop_at part (drop (n - 0) place) p.n l ∙ ap (λ x. drop x place) z;
+      word = subst (WordOf p m content) (sym (take_at part (drop n place) p.n l ∙ q)) w;
+      rest = drop_at part (drop n place) p.n l ∙ ap (λ x. drop x place) e;
     }

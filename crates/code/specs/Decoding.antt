@@ -5,7 +5,7 @@ use Rattle.field.specs.Meaning.{Meaning, product_of}
 use Rattle.plan.specs.declared.Plan.{Plan}
 use Rattle.poly.specs.Arithmetic.{quotient_of}
 use Rattle.poly.specs.Polynomials.{value_of}
-use Rattle.bivariate.specs.Made.{made}
+use Rattle.field.specs.Made.{made}
 use Rattle.interpolation.specs.declared.places.Place.{Place}
 use Rattle.code.specs.Codes.{support_of, multipliers_of, Letters}
 use Rattle.code.specs.Listing.{distance}

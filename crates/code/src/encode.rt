@@ -9,60 +9,60 @@ ghost use Rattle.code.specs.Extension.{last_fault};
 ghost use Rattle.code.specs.Faults.{refusal_of, WriteFails};
 
 use crate::CodeFault;
-use crate::extension::extend;
-use crate::letters::{are_letters, read};
+use crate::letters::are_letters;
+use crate::plan_code::PlanCode;
 use field::Field;
-use plan::Plan;
-
-// Over a field with fewer letters than elements, what a content is extended to need not be a word.
-fn is_word<F: Field>(plan: &Plan, field: &F, extended: &[u16; 64]) -> bool
-    ensures { Decides result (Letters (F.meaning field.now) (take plan.now.n extended.now)) }
-{
-    let n = plan.n();
-    are_letters(field, &extended[0..n])
-}
+use plan::{MAX_N, Plan};
 
 // Whether there is a word comes before whether it fits, so that too short a place hides no fault
 // of the content.
-fn last_fault(whole: bool, room: usize, n: usize) -> Option<CodeFault>
-    ensures { result ≡ last_fault whole room n }
+fn judge_last(whole: bool, room: usize, n: usize) -> Result<(), CodeFault>
+    ensures { result_err result ≡ last_fault whole room n }
 {
     if !whole {
-        return Some(CodeFault::Content);
+        return Err(CodeFault::Content);
     }
     if room < n {
-        return Some(CodeFault::Room);
+        return Err(CodeFault::Room);
     }
-    None
+    Ok(())
 }
 
-// The word that begins with the content, in the first n places, if a place with this room can take it.
-fn word_of<F: Field>(
-    plan: &Plan,
-    field: &F,
-    content: &[u16],
-    room: usize,
-) -> Result<[u16; 64], CodeFault>
-    ensures judged { Judged refusal_of (WriteFails plan.now (F.meaning field.now) content.now room) (result_err result) }
-    ensures word { IfOk result (λ w. (plan.now.n ≤ room) × WordOf plan.now (F.meaning field.now) content.now (take plan.now.n w)) }
-{
-    if let Err(fault) = read(plan, field, content, plan.dimension()) {
-        return Err(fault);
+impl<'a, F: Field> PlanCode<'a, F> {
+    // Over a field with fewer letters than elements, what a content is extended to need not be a word.
+    fn is_word(&self, extended: &[u16; MAX_N]) -> bool
+        ensures { Decides result (Letters (F.meaning self.now.field.now) (take self.now.plan.now.n extended.now)) }
+    {
+        are_letters(self.field, &extended[..self.plan.n()])
     }
-    let extended = extend(plan, field, content);
-    match last_fault(is_word(plan, field, &extended), room, plan.n()) {
-        Some(fault) => Err(fault),
-        None => Ok(extended),
-    }
-}
 
-fn put_down(plan: &Plan, word: &[u16; 64], place: &mut [u16])
-    requires { plan.now.n ≤ length place.old }
-    ensures { (m : Meaning) (content : List ℕ) → WordOf plan.now m content (take plan.now.n word.now) → Written plan.now m content place.old place.new }
-{
-    let n = plan.n();
-    let part = &mut place[0..n];
-    part.copy_from_slice(&word[0..n]);
+    // The word that begins with the content, in the first n places, if a place with this room can take it.
+    fn word_of(&self, content: &[u16], room: usize) -> Result<[u16; MAX_N], CodeFault>
+        ensures judged { Judged refusal_of (WriteFails self.now.plan.now (F.meaning self.now.field.now) content.now room) (result_err result) }
+        ensures word { IfOk result (λ w. (self.now.plan.now.n ≤ room) × WordOf self.now.plan.now (F.meaning self.now.field.now) content.now (take self.now.plan.now.n w)) }
+    {
+        self.read(content, self.plan.dimension())?;
+        let extended = self.extend(content);
+        judge_last(self.is_word(&extended), room, self.plan.n())?;
+        Ok(extended)
+    }
+
+    fn put_down(&self, word: &[u16; MAX_N], place: &mut [u16])
+        requires { self.now.plan.now.n ≤ length place.old }
+        ensures { (m : Meaning) (content : List ℕ) → WordOf self.now.plan.now m content (take self.now.plan.now.n word.now) → Written self.now.plan.now m content place.old place.new }
+    {
+        let n = self.plan.n();
+        place[..n].copy_from_slice(&word[..n]);
+    }
+
+    fn write(&self, content: &[u16], place: &mut [u16]) -> Result<(), CodeFault>
+        ensures judged { Judged refusal_of (WriteFails self.now.plan.now (F.meaning self.now.field.now) content.now (length place.old)) (result_err result) }
+        ensures written { MatchResult result (λ _. Written self.now.plan.now (F.meaning self.now.field.now) content.now place.old place.new) (λ _. place.new ≡ place.old) }
+    {
+        let word = self.word_of(content, place.len())?;
+        self.put_down(&word, place);
+        Ok(())
+    }
 }
 
 // Puts the one word of the code that begins with the content at the start of the place.
@@ -75,11 +75,5 @@ pub fn write<F: Field>(
     ensures judged { Judged refusal_of (WriteFails plan.now (F.meaning field.now) content.now (length place.old)) (result_err result) }
     ensures written { MatchResult result (λ _. Written plan.now (F.meaning field.now) content.now place.old place.new) (λ _. place.new ≡ place.old) }
 {
-    match word_of(plan, field, content, place.len()) {
-        Ok(word) => {
-            put_down(plan, &word, place);
-            Ok(())
-        }
-        Err(fault) => Err(fault),
-    }
+    PlanCode::new(plan, field)?.write(content, place)
 }

@@ -1,68 +1,61 @@
 // The polynomial in x and y that vanishes at the letters heard: at each element of the support, over its multiplier.
-ghost use Rattle.std.specs.Prelude.{◌≡◌, ◌<◌, Bool, length, take};
+ghost use Rattle.std.specs.Prelude.{◌≡◌, ◌<◌, Bool, length};
 ghost use Rattle.interpolation.specs.Runs.{Interpolant};
 ghost use Rattle.code.specs.Decoding.{place_at, places_of};
 ghost use Rattle.code.specs.Listing.{weight_of, width_of};
 
-use bivariate::zero_polynomial;
+use crate::plan_code::PlanCode;
+use arrayvec::ArrayVec;
+use bivariate::{Bounds, Polynomial, zero_polynomial};
 use field::Field;
 use interpolation::{Place, interpolant};
-use plan::Plan;
 use poly::quotient;
 
-// The point of letter i, with the plan's multiplicity.
-fn place<F: Field>(plan: &Plan, field: &F, heard: &[u16], i: usize) -> Place
-    requires inside { i < plan.now.n }
-    requires long { length heard.now ≡ plan.now.n }
-    ensures { result ≡ place_at plan.now (F.meaning field.now) heard.now i }
-{
-    let support = plan.support();
-    let multipliers = plan.multipliers();
-    Place {
-        abscissa: support[i],
-        ordinate: quotient(field, heard[i], multipliers[i]),
-        multiplicity: plan.k(),
+impl<'a, F: Field> PlanCode<'a, F> {
+    // The bounds of an interpolation polynomial, in which y weighs the greatest degree of a message polynomial.
+    pub(crate) fn bounds(&self) -> Bounds
+        ensures { (result.l ≡ self.now.plan.now.l) × (result.bound ≡ width_of self.now.plan.now) × (result.weight ≡ weight_of self.now.plan.now) }
+    {
+        Bounds {
+            l: self.plan.l(),
+            bound: self.plan.bound(),
+            weight: self.plan.degree(),
+        }
     }
-}
 
-// A place that asks for nothing, to fill an array with.
-fn no_place() -> Place
-    ensures { (result.abscissa ≡ 0) × (result.ordinate ≡ 0) × (result.multiplicity ≡ 0) }
-{
-    Place {
-        abscissa: 0,
-        ordinate: 0,
-        multiplicity: 0,
+    // The point of letter i, with the plan's multiplicity.
+    fn place(&self, heard: &[u16], i: usize) -> Place
+        requires inside { i < self.now.plan.now.n }
+        requires long { length heard.now ≡ self.now.plan.now.n }
+        ensures { result ≡ place_at self.now.plan.now (F.meaning self.now.field.now) heard.now i }
+    {
+        Place {
+            abscissa: self.plan.support()[i],
+            ordinate: quotient(self.field, heard[i], self.plan.multipliers()[i]),
+            multiplicity: self.plan.k(),
+        }
     }
-}
 
-// The places of the word heard, in the first n places of the array.
-fn places<F: Field>(plan: &Plan, field: &F, heard: &[u16]) -> [Place; 64]
-    requires { length heard.now ≡ plan.now.n }
-    ensures { (take plan.now.n result ≡ places_of plan.now (F.meaning field.now) heard.now) × (length result ≡ 64) }
-{
-    let mut places = [no_place(); 64];
-    for i in 0..plan.n() {
-        places[i] = place(plan, field, heard, i);
+    // The places of the word heard.
+    #[tactic(auto, using(crate::proofs::Pointing::pointed_none, crate::proofs::Pointing::pointed_room, crate::proofs::Pointing::pointed_more, crate::proofs::Pointing::pointed_all))]
+    fn places(&self, heard: &[u16]) -> ArrayVec<Place, 64>
+        requires { length heard.now ≡ self.now.plan.now.n }
+        ensures { result.items ≡ places_of self.now.plan.now (F.meaning self.now.field.now) heard.now }
+    {
+        let mut places = ArrayVec::new();
+        // By index, since each place is of three lists: the support, the multipliers and the word heard.
+        for i in 0..heard.len() {
+            places.push(self.place(heard, i));
+        }
+        places
     }
-    places
-}
 
-// The interpolation polynomial of the word heard. The plan's inequality sees to it that there is one.
-pub(crate) fn interpolation<F: Field>(plan: &Plan, field: &F, heard: &[u16]) -> [[u16; 256]; 8]
-    requires { length heard.now ≡ plan.now.n }
-    ensures { (b : Bool) × Interpolant (F.meaning field.now) (places_of plan.now (F.meaning field.now) heard.now) plan.now.l (width_of plan.now) (weight_of plan.now) result b }
-{
-    let n = plan.n();
-    let places = places(plan, field, heard);
-    let mut q = zero_polynomial();
-    interpolant(
-        field,
-        &places[0..n],
-        plan.l(),
-        plan.bound(),
-        plan.degree(),
-        &mut q,
-    );
-    q
+    // The interpolation polynomial of the word heard. The plan's inequality sees to it that there is one.
+    pub(crate) fn interpolation(&self, heard: &[u16]) -> Polynomial
+        requires { length heard.now ≡ self.now.plan.now.n }
+        ensures { (b : Bool) × Interpolant (F.meaning self.now.field.now) (places_of self.now.plan.now (F.meaning self.now.field.now) heard.now) self.now.plan.now.l (width_of self.now.plan.now) (weight_of self.now.plan.now) result b }
+    {
+        let places = self.places(heard);
+        interpolant(self.field, places.as_slice(), self.bounds()).unwrap_or(zero_polynomial())
+    }
 }

@@ -8,15 +8,8 @@ ghost use Rattle.code.specs.Codes.{Letters};
 ghost use Rattle.code.specs.Faults.{refusal_of, NoLetter, ReadFails};
 
 use crate::CodeFault;
+use crate::plan_code::PlanCode;
 use field::{Field, is_letter};
-use plan::Plan;
-
-// The support and the multipliers of a plan are elements only of fields of the plan's size.
-fn other_field<F: Field>(plan: &Plan, field: &F) -> bool
-    ensures { Decides result (plan.now.size ≢ (F.meaning field.now).size) }
-{
-    plan.size() != field.size()
-}
 
 fn other_length(letters: &[u16], long: usize) -> bool
     ensures { Decides result (length letters.now ≢ long) }
@@ -28,40 +21,26 @@ fn other_length(letters: &[u16], long: usize) -> bool
 fn first_no_letter<F: Field>(field: &F, letters: &[u16]) -> Option<usize>
     ensures { FirstBad (NoLetter (F.meaning field.now) letters.now) (length letters.now) result }
 {
-    for i in 0..letters.len() {
-        if !is_letter(field, letters[i]) {
-            return Some(i);
-        }
-    }
-    None
+    letters.iter().position(|&letter| !is_letter(field, letter))
 }
 
 pub(crate) fn are_letters<F: Field>(field: &F, letters: &[u16]) -> bool
     ensures { Decides result (Letters (F.meaning field.now) letters.now) }
 {
-    match first_no_letter(field, letters) {
-        Some(_) => false,
-        None => true,
-    }
+    first_no_letter(field, letters).is_none()
 }
 
-// Refuses what is not the given number of letters of the plan's field, and nothing else.
-pub(crate) fn read<F: Field>(
-    plan: &Plan,
-    field: &F,
-    letters: &[u16],
-    long: usize,
-) -> Result<(), CodeFault>
-    ensures { Judged refusal_of (ReadFails plan.now (F.meaning field.now) long letters.now) (result_err result) }
-{
-    if other_field(plan, field) {
-        return Err(CodeFault::Field);
+impl<'a, F: Field> PlanCode<'a, F> {
+    // Refuses what is not the given number of letters, and nothing else.
+    pub(crate) fn read(&self, letters: &[u16], long: usize) -> Result<(), CodeFault>
+        ensures { Judged refusal_of (ReadFails self.now.plan.now (F.meaning self.now.field.now) long letters.now) (result_err result) }
+    {
+        if other_length(letters, long) {
+            return Err(CodeFault::Length);
+        }
+        match first_no_letter(self.field, letters) {
+            Some(i) => Err(CodeFault::Letter(i)),
+            None => Ok(()),
+        }
     }
-    if other_length(letters, long) {
-        return Err(CodeFault::Length);
-    }
-    if let Some(i) = first_no_letter(field, letters) {
-        return Err(CodeFault::Letter(i));
-    }
-    Ok(())
 }

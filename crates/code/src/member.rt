@@ -6,39 +6,40 @@ ghost use Rattle.code.specs.Codes.{InCode};
 ghost use Rattle.code.specs.Faults.{refusal_of, CheckFails};
 
 use crate::CodeFault;
-use crate::extension::extend;
-use crate::letters::read;
+use crate::plan_code::PlanCode;
 use field::Field;
-use plan::Plan;
+use plan::{MAX_N, Plan};
 
-fn same(a: &[u16], b: &[u16]) -> bool
-    ensures { Decides result (a.now ≡ b.now) }
-{
-    a == b
-}
+impl<'a, F: Field> PlanCode<'a, F> {
+    // All n places are compared: the first n - t agree by themselves, and cost little.
+    fn agrees(&self, extended: &[u16; MAX_N], word: &[u16]) -> bool
+        ensures { Decides result (take self.now.plan.now.n extended.now ≡ word.now) }
+    {
+        &extended[..self.plan.n()] == word
+    }
 
-// All n places are compared: the first n - t agree by themselves, and cost little.
-fn agrees(plan: &Plan, extended: &[u16; 64], word: &[u16]) -> bool
-    ensures { Decides result (take plan.now.n extended.now ≡ word.now) }
-{
-    let n = plan.n();
-    same(&extended[0..n], word)
-}
+    fn is_member(&self, word: &[u16]) -> bool
+        requires { First refusal_of (CheckFails self.now.plan.now (F.meaning self.now.field.now) word.now) None }
+        ensures { Decides result (InCode self.now.plan.now (F.meaning self.now.field.now) word.now) }
+    {
+        let extended = self.extend(&word[..self.plan.dimension()]);
+        self.agrees(&extended, word)
+    }
 
-fn is_member<F: Field>(plan: &Plan, field: &F, word: &[u16]) -> bool
-    requires { First refusal_of (CheckFails plan.now (F.meaning field.now) word.now) None }
-    ensures { Decides result (InCode plan.now (F.meaning field.now) word.now) }
-{
-    let k = plan.dimension();
-    let extended = extend(plan, field, &word[0..k]);
-    agrees(plan, &extended, word)
-}
+    // Refuses what is not n letters of the plan's field.
+    fn read_word(&self, word: &[u16]) -> Result<(), CodeFault>
+        ensures { Judged refusal_of (CheckFails self.now.plan.now (F.meaning self.now.field.now) word.now) (result_err result) }
+    {
+        self.read(word, self.plan.n())
+    }
 
-// Refuses what is not n letters of the plan's field.
-fn read_word<F: Field>(plan: &Plan, field: &F, word: &[u16]) -> Result<(), CodeFault>
-    ensures { Judged refusal_of (CheckFails plan.now (F.meaning field.now) word.now) (result_err result) }
-{
-    read(plan, field, word, plan.n())
+    fn check(&self, word: &[u16]) -> Result<bool, CodeFault>
+        ensures judged { Judged refusal_of (CheckFails self.now.plan.now (F.meaning self.now.field.now) word.now) (result_err result) }
+        ensures decided { IfOk result (λ b. Decides b (InCode self.now.plan.now (F.meaning self.now.field.now) word.now)) }
+    {
+        self.read_word(word)?;
+        Ok(self.is_member(word))
+    }
 }
 
 // Whether the word is in the code of the plan over the field.
@@ -46,8 +47,5 @@ pub fn check<F: Field>(plan: &Plan, field: &F, word: &[u16]) -> Result<bool, Cod
     ensures judged { Judged refusal_of (CheckFails plan.now (F.meaning field.now) word.now) (result_err result) }
     ensures decided { IfOk result (λ b. Decides b (InCode plan.now (F.meaning field.now) word.now)) }
 {
-    match read_word(plan, field, word) {
-        Ok(()) => Ok(is_member(plan, field, word)),
-        Err(fault) => Err(fault),
-    }
+    PlanCode::new(plan, field)?.check(word)
 }

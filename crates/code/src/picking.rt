@@ -5,9 +5,7 @@ ghost use Rattle.fault.specs.First.{Judged};
 ghost use Rattle.code.specs.Faults.{refusal_of, PickFails};
 
 use crate::CodeFault;
-
-// The longest word for which a plan has room.
-const MAX_N: usize = 64;
+use plan::MAX_N;
 
 // Where word i begins in a list of some length. Whole words are counted by division, so that no
 // place past the end of the list is ever computed.
@@ -29,11 +27,6 @@ pub fn pick(list: &[u16], n: usize, i: usize) -> Result<&[u16], CodeFault>
     ensures judged { Judged refusal_of (PickFails (length list.now) n i) (result_err result) }
     ensures part { IfOk result (λ word. word.now ≡ take n (drop (i * n) list.now)) }
 {
-    match start_of(list.len(), n, i) {
-        Ok(start) => {
-            let end = start + n;
-            Ok(&list[start..end])
-        }
-        Err(fault) => Err(fault),
-    }
+    let start = start_of(list.len(), n, i)?;
+    Ok(&list[start..start + n])
 }

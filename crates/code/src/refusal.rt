@@ -2,7 +2,9 @@
 // has one type to hand on.
 ghost use Rattle.std.specs.Prelude.{◌≡◌};
 ghost use Rattle.code.specs.Faults.{refusal_of};
+ghost use Rattle.code.specs.declared.refusal.CodeFault.TheVariants.{Workspace};
 
+use bivariate::NoRoom;
 use fault::{Layer, Refusal};
 
 // Shape is a word length outside what a plan can have; it is the plan's refusal, named here for
@@ -18,11 +20,19 @@ pub enum CodeFault {
     Workspace,
 }
 
-impl CodeFault {
-    pub fn refusal(self) -> Refusal
-        ensures { result ≡ refusal_of self }
-    {
-        let (number, layer, place) = match self {
+impl From<NoRoom> for CodeFault {
+    ghost from_gives = { λ _ fault. fault ≡ Workspace };
+
+    fn from(_: NoRoom) -> CodeFault {
+        CodeFault::Workspace
+    }
+}
+
+impl From<CodeFault> for Refusal {
+    ghost from_gives = { λ fault refusal. refusal ≡ refusal_of fault };
+
+    fn from(fault: CodeFault) -> Refusal {
+        let (number, layer, place) = match fault {
             CodeFault::Field => (20, Layer::Code, 0),
             CodeFault::Shape => (3, Layer::Plan, 0),
             CodeFault::Length => (10, Layer::Code, 0),
@@ -36,5 +46,13 @@ impl CodeFault {
             layer,
             place,
         }
+    }
+}
+
+impl CodeFault {
+    pub fn refusal(self) -> Refusal
+        ensures { result ≡ refusal_of self }
+    {
+        Refusal::from(self)
     }
 }

@@ -6,8 +6,9 @@ use Rattle.std.proofs.lemmas.Simd.{map-map}
 use Rattle.std.proofs.Math.Seq.{map-set_same}
 use Rattle.std.proofs.lemmas.Bool.{cases_lt}
 use Rattle.field.specs.Meaning.{Meaning}
-use Rattle.bivariate.specs.Made.{made}
-use Rattle.bivariate.proofs.Upto.{Upto, upto_none, pick_below, pick_above}
+use Rattle.field.specs.Made.{made}
+use Rattle.field.proofs.Making.{Upto, upto_none}
+use Rattle.bivariate.proofs.Parts.{pick_below, pick_above}
 use Rattle.bivariate.specs.Combinations.{times_polynomial_of}
 use Rattle.interpolation.specs.declared.basis.BasisRow.{BasisRow}
 use Rattle.interpolation.specs.Bases.{rows_of, degrees_of, start_row, start_of}

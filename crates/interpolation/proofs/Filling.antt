@@ -3,9 +3,10 @@ use Rattle.std.proofs.Common.{◌≡◌, ℕ, ◌+◌, ◌<◌, ◌≤◌, min, 
 use lib.ListN.{length-replicate, get_or-replicate}
 use Rattle.std.proofs.lemmas.Bool.{cond-true, cond-false, eq-eqb, ne_eqb}
 use Rattle.field.specs.Meaning.{Meaning, product_of}
-use Rattle.bivariate.specs.Made.{made}
+use Rattle.field.specs.Made.{made}
 use Rattle.bivariate.specs.Combinations.{minus_polynomial_of}
-use Rattle.bivariate.proofs.Upto.{Upto, upto_here, upto_write, upto_all, pick_below, pick_above}
+use Rattle.field.proofs.Making.{Upto, upto_here, upto_write, upto_all}
+use Rattle.bivariate.proofs.Parts.{pick_below, pick_above}
 use Rattle.interpolation.specs.Rows.{live_discrepancy_of, discrepancies_of, cleared_row_of, cleared_of}
 
 -- every entry is written

@@ -10,7 +10,7 @@ use Rattle.field.specs.Meaning.{Meaning, operations}
 use Rattle.bivariate.specs.Combinations.{y_power_of}
 use Rattle.bivariate.proofs.LiftedCombinations.{y_power_lift, y_power_elements}
 use Rattle.bivariate.proofs.FieldNumbers.{zero_element}
-use Rattle.bivariate.proofs.Upto.{made_at, made_past}
+use Rattle.field.proofs.Making.{made_at, made_past}
 use Rattle.bivariate.specs.Lifted.{polynomial_of, PolynomialOf}
 use Rattle.std.proofs.lemmas.Bool.{cases_lt}
 use Rattle.std.proofs.lemmas.List.{map_more, take_all}

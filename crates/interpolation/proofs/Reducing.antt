@@ -4,7 +4,8 @@ use Rattle.std.proofs.lemmas.List.{get_or_past}
 use Rattle.std.proofs.lemmas.Bool.{cases_lt, cond-false, ne_eqb}
 use Rattle.field.specs.Meaning.{Meaning, product_of}
 use Rattle.bivariate.specs.Combinations.{row_length, discrepancy_of, minus_polynomial_of, times_polynomial_of}
-use Rattle.bivariate.proofs.Upto.{length_made, made_at, pick_below, pick_above}
+use Rattle.field.proofs.Making.{length_made, made_at}
+use Rattle.bivariate.proofs.Parts.{pick_below, pick_above}
 use Rattle.interpolation.specs.Rows.{inverse_or_zero, live_discrepancy_of, discrepancies_of, cleared_row_of, cleared_of, raised_of, reduced_of}
 use Rattle.interpolation.proofs.Filling.{discrepancy_at, cleared_at, cleared_none}
 

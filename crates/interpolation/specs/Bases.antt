@@ -1,6 +1,6 @@
 -- A basis as the list of its polynomials and the list of their degrees.
 use Rattle.std.specs.Prelude.{ℕ, ◌-◌, ◌*◌, ◌^◌, min, List, map}
-use Rattle.bivariate.specs.Made.{made}
+use Rattle.field.specs.Made.{made}
 use Rattle.bivariate.specs.Combinations.{y_power_of}
 use Rattle.interpolation.specs.declared.basis.BasisRow.{BasisRow}
 

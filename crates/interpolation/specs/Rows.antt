@@ -2,7 +2,7 @@
 use Rattle.std.specs.Prelude.{ℕ, ◌+◌, ◌-◌, ◌*◌, ◌^◌, min, cond, List, [], ◌==◌, nat_lt, slice_index, slice_index_or, slice_set}
 use Rattle.std.specs.Option.{unwrap_or}
 use Rattle.field.specs.Meaning.{Meaning, product_of, inverse_of}
-use Rattle.bivariate.specs.Made.{made}
+use Rattle.field.specs.Made.{made}
 use Rattle.bivariate.specs.Combinations.{discrepancy_of, minus_polynomial_of, times_polynomial_of, y_power_of}
 
 -- the powers y^0 to y^7

@@ -27,7 +27,7 @@ fn start_row(weight: usize, j: usize) -> BasisRow
 }
 
 // The powers y^0 to y^7, with their degrees where y has the weight.
-#[tactic(auto, unfolding(crate::specs::Bases::start_of, bivariate::specs::Made::made))]
+#[tactic(auto, unfolding(crate::specs::Bases::start_of, field::specs::Made::made))]
 pub fn start(weight: usize) -> Basis
     ensures { result ≡ start_of weight }
 {

@@ -10,7 +10,7 @@ use plan::Plan;
 impl<'a, F: Field> PlanCode<'a, F> {
     // The support and the multipliers of a plan are elements only of fields of the plan's size.
     pub(crate) fn new(plan: &'a Plan, field: &'a F) -> Result<PlanCode<'a, F>, CodeFault>
-        ensures made { IfOk result (λ c. (c.plan ≡ plan) × (c.field ≡ field)) }
+        ensures made { IfOk result (λ c. (c.plan.now ≡ plan.now) × (c.field.now ≡ field.now)) }
         ensures refused { IfErr result (λ fault. (fault ≡ OtherField) × (plan.now.size ≢ (F.meaning field.now).size)) }
     {
         if plan.size() != field.size() {

@@ -1,4 +1,4 @@
-use Rattle.bivariate.proofs.Upto.{Part}
+use Rattle.bivariate.proofs.Parts.{Part}
 use Rattle.bivariate.proofs.Writing.{plus_at}
 use Rattle.bivariate.proofs.combinations.add_multiple.Given as goal
 

@@ -1,6 +1,6 @@
 use Rattle.std.proofs.Common.{[]}
 use Rattle.bivariate.specs.Combinations.{row_length, times_of}
-use Rattle.bivariate.proofs.Upto.{Part}
+use Rattle.bivariate.proofs.Parts.{Part}
 use Rattle.bivariate.proofs.Writing.{changing}
 use Rattle.bivariate.proofs.combinations.multiply_polynomial.Given as goal
 

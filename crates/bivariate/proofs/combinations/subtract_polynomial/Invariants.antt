@@ -1,6 +1,6 @@
 use Rattle.std.proofs.Common.{[], get_or}
 use Rattle.bivariate.specs.Combinations.{row_length, minus_of}
-use Rattle.bivariate.proofs.Upto.{Part}
+use Rattle.bivariate.proofs.Parts.{Part}
 use Rattle.bivariate.proofs.Writing.{changing}
 use Rattle.bivariate.proofs.combinations.subtract_polynomial.Given as goal
 

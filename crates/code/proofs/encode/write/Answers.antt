@@ -1,8 +1,10 @@
--- What is put down is the word that was found.
+use Rattle.std.proofs.Common.{length}
+use Rattle.std.proofs.lemmas.Result.{err_from_is_err_and}
+use Rattle.code.specs.Faults.{WriteFails}
+use Rattle.code.proofs.Order.{first_field}
 use Rattle.code.proofs.encode.write.Goals as goal
 
-pub returns-in-Ok : goal.returns-in-Ok
-returns-in-Ok g c = record {
-  judged = c.in-Ok.ensures.judged;
-  written = c.put_down.ensures (g.F.Field.meaning c.args.field.now) c.args.content.now c.in-Ok.ensures.word.1;
-}
+pub returns-in_err-new-clause-judged : goal.returns-in_err-new-clause-judged
+returns-in_err-new-clause-judged g c =
+    let p = err_from_is_err_and c.from_residual.result c.from_residual.ensures.1 in
+    rw (p.1, p.2, c.in_err-new.ensures.refused.0) (first_field (WriteFails c.args.plan.now (g.F.Field.meaning c.args.field.now) c.args.content.now (length c.args.place.now)) c.in_err-new.ensures.refused.1)

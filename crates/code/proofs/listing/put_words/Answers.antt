@@ -1,9 +1,7 @@
-use Rattle.std.proofs.Common.{arith}
-use Rattle.code.proofs.Joining.{put_more, put_all}
+use Rattle.std.proofs.Common.{refl}
+use Rattle.code.proofs.Joining.{putting_more}
 use Rattle.code.proofs.listing.put_words.Goals as goal
 
 pub loop-i-preserved : goal.loop-i-preserved
-loop-i-preserved c = put_more c.args.list.now c.args.words.now c.args.n c.loop-i.i c.loop-i.list c.put_word.new.list c.word_at.result (omega (arith, c.told-words, c.loop-i-test.true, c.requires.few)) c.loop-i.invariant c.word_at.ensures c.put_word.ensures.whole c.put_word.ensures.written
-
-pub returns : goal.returns
-returns c = put_all c.args.list.now c.args.words.now c.args.n c.loop-i.i c.args.count c.loop-i.list c.loop-i-test.false c.loop-i.auto.i-end c.loop-i.invariant
+loop-i-preserved c =
+    putting_more c.args.list.now c.args.words.now.items c.args.n c.loop-i.i _ c.loop-i.list c.copy_from_slice.new.self c.as_slice-word-items.result.now c.as_slice-word-items.ensures.value c.loop-i-test.true c.requires.fits c.loop-i.auto.list c.loop-i.invariant c.copy_from_slice.ensures.after refl c.copy_from_slice.ensures.len

@@ -1,6 +1,5 @@
--- The words before i stand at the start of the list.
-use Rattle.code.proofs.Joining.{Put}
+use Rattle.code.proofs.Joining.{Putting}
 use Rattle.code.proofs.listing.put_words.Given as goal
 
 abbrev pub invariant-loop-i : goal.invariant-loop-i
-invariant-loop-i l = Put l.initial.list l.words l.n l.i l.list
+invariant-loop-i l = Putting l.initial.list l.words.items l.n l.i l.list

@@ -1,13 +1,10 @@
--- Which fault is first: those of the word, then those of the room.
-use Rattle.std.proofs.Common.{Some, None}
-use Rattle.code.proofs.Readiness.{word_refused, last_judged}
+use Rattle.std.proofs.Common.{length}
+use Rattle.std.proofs.lemmas.Result.{err_from_is_err_and}
+use Rattle.code.specs.Faults.{ListFails}
+use Rattle.code.proofs.Order.{first_field}
 use Rattle.code.proofs.listing.ready.Goals as goal
 
-pub returns-in-Err : goal.returns-in-Err
-returns-in-Err g c = word_refused c.args.plan.now (g.F.Field.meaning c.args.field.now) c.args.heard.now _ _ c.n.result c.n.ensures c.in-Err.fault c.in-Err.ensures
-
-pub returns-in-Some : goal.returns-in-Some
-returns-in-Some g c = last_judged c.args.plan.now (g.F.Field.meaning c.args.field.now) c.args.heard.now _ _ c.n.result c.n.ensures c.in_default.ensures c.list_length.result c.list_length.ensures (Some c.in-Some.fault) c.in-Some.ensures
-
-pub returns-in-None : goal.returns-in-None
-returns-in-None g c = last_judged c.args.plan.now (g.F.Field.meaning c.args.field.now) c.args.heard.now _ _ c.n.result c.n.ensures c.in_default.ensures c.list_length.result c.list_length.ensures None c.in-None.ensures
+pub returns-in_err-new : goal.returns-in_err-new
+returns-in_err-new g c =
+    let p = err_from_is_err_and c.from_residual.result c.from_residual.ensures.1 in
+    rw (p.1, p.2, c.in_err-new.ensures.refused.0) (first_field (ListFails c.args.plan.now (g.F.Field.meaning c.args.field.now) c.args.heard.now (length c.args.list.now) (length c.args.workspace.now)) c.in_err-new.ensures.refused.1)
