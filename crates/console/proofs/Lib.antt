@@ -1,3 +1,4 @@
+pub mod ChosenFields
 pub mod LinedText
 pub mod SpacedText
 pub mod WordsOut

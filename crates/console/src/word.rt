@@ -30,6 +30,18 @@ impl Word {
     }
 }
 
+// The letters, each with a blank before it.
+impl fmt::Display for Word {
+    ghost output = { λ x. Some (spaced (take x.n x.letters)) };
+
+    fn fmt<W: fmt::Write>(&self, f: &mut fmt::Formatter<W>) -> fmt::Result {
+        let letters = Letters {
+            letters: self.letters(),
+        };
+        write!(f, "{letters}")
+    }
+}
+
 // The letters of a word, each with a blank before it.
 #[derive(Clone, Copy)]
 pub struct Letters<'a> {

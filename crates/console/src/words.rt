@@ -53,20 +53,14 @@ impl Words {
     }
 }
 
-// The words of a list, each on a line of its own; the line before them is not ended yet.
-#[derive(Clone, Copy)]
-pub struct Lines<'a> {
-    pub words: &'a Words,
-}
-
-impl<'a> fmt::Display for Lines<'a> {
-    ghost output = { λ x. Some (lined (words_of x.words.now.n x.words.now.count x.words.now.list)) };
+// The words, each on a line of its own; the line before them is not ended yet.
+impl fmt::Display for Words {
+    ghost output = { λ x. Some (lined (words_of x.n x.count x.list)) };
 
     fn fmt<W: fmt::Write>(&self, f: &mut fmt::Formatter<W>) -> fmt::Result {
-        let words = self.words;
-        for i in 0..words.count() {
+        for i in 0..self.count {
             let letters = Letters {
-                letters: words.word(i),
+                letters: self.word(i),
             };
             write!(f, "\nword{letters}")?;
         }
