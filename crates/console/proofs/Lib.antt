@@ -1,4 +1,3 @@
-pub mod ChosenFields
 pub mod LinedText
 pub mod SpacedText
 pub mod WordsOut

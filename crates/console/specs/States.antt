@@ -45,11 +45,6 @@ abbrev pub with_field : Option AnyField → (Meaning → Answer) → Result Answ
 with_field None f = Err NoField
 with_field (Some field) f = Ok (f (meaning_in field))
 
--- outcome of a choice of a field that was made or refused: described, or refused with everything as it was; the plan stays
-abbrev pub ChosenFrom : Result AnyField FieldFault → Console → Answer → Console → Type 0
-ChosenFrom (Ok f) before r after = (r ≡ plain (meaning_in f)) × (after.field ≡ Some f) × (after.plan ≡ before.plan)
-ChosenFrom (Err fault) before r after = (r ≡ Refused (refusal_of fault)) × (after ≡ before)
-
 -- outcome of a choice of field: made and described, or refused with everything as it was; the plan stays
 abbrev pub ChosenBy : Option FieldFault → Meaning → Console → Answer → Console → Type 0
 ChosenBy None m before r after = (r ≡ plain m) × (meaning_of after.field ≡ Some m) × (after.plan ≡ before.plan)

@@ -1,13 +1,14 @@
 // What the console answers, and how it is written.
 ghost use Rattle.std.specs.Prelude.{◌≡◌};
 ghost use Rattle.console.specs.Text.{answer_text, trouble_text};
-ghost use Rattle.console.specs.declared.answer.Trouble.TheVariants.{Memory};
+ghost use Rattle.console.specs.declared.answer.Trouble.TheVariants.{Number, Memory};
 
 use crate::word::Word;
 use crate::words::Words;
 use fault::Refusal;
 use std::alloc::{AllocError, AllocFailed};
 use std::fmt;
+use std::num::ParseIntError;
 
 // The answer to a command.
 #[derive(Clone, Copy, Debug)]
@@ -68,6 +69,14 @@ impl fmt::Display for Trouble {
             Trouble::NoField => write!(f, "no field is chosen"),
             Trouble::Memory => write!(f, "out of memory"),
         }
+    }
+}
+
+impl From<ParseIntError> for Trouble {
+    ghost from_gives = { λ _ t. t ≡ Number };
+
+    fn from(_: ParseIntError) -> Self {
+        Self::Number
     }
 }
 

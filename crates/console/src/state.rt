@@ -1,7 +1,8 @@
 // The console's state: the field chosen last and the plan made last, and what each command does to them.
-ghost use Rattle.std.specs.Prelude.{◌≡◌, None};
+ghost use Rattle.std.specs.Prelude.{◌≡◌, Some, None};
 ghost use Rattle.std.specs.Option.{ok_or};
-ghost use Rattle.console.specs.States.{Chosen, ChosenFrom, Planned, Checked, WrittenOut, ListedOut, OverField, with_field, inverted};
+ghost use Rattle.console.specs.Kinds.{meaning_in};
+ghost use Rattle.console.specs.States.{Chosen, Planned, Checked, WrittenOut, ListedOut, OverField, with_field, plain, inverted};
 ghost use Rattle.console.specs.declared.answer.Answer.TheVariants.{Sum, Negative, Product};
 ghost use Rattle.console.specs.declared.answer.Trouble.TheVariants.{NoField};
 ghost use Rattle.field.specs.Binary.{binary as binary_meaning};
@@ -14,7 +15,7 @@ use crate::word::Word;
 use crate::words::Words;
 use crate::{Answer, AnyField, Trouble};
 use code::{check, list, write};
-use field::{BinaryField, Field, FieldFault, PrimeField};
+use field::{BinaryField, Field, PrimeField};
 use plan::{Parameters, Plan};
 
 // The field chosen last, if one was, and the plan made last.
@@ -71,19 +72,14 @@ impl Console {
         }
     }
 
-    // Chooses the field that was made, or answers why none was.
-    fn choose(&mut self, made: Result<AnyField, FieldFault>) -> Answer
-        ensures { ChosenFrom made self.old result self.new }
+    // Chooses the field, and describes it.
+    fn choose(&mut self, field: AnyField) -> Answer
+        ensures { (result ≡ plain (meaning_in field)) × (self.new.field ≡ Some field) × (self.new.plan ≡ self.old.plan) }
     {
-        match made {
-            Ok(field) => {
-                self.field = Some(field);
-                Answer::Field {
-                    size: field.size(),
-                    letters: field.letters(),
-                }
-            }
-            Err(fault) => Answer::Refused(fault.refusal()),
+        self.field = Some(field);
+        Answer::Field {
+            size: field.size(),
+            letters: field.letters(),
         }
     }
 
@@ -91,14 +87,20 @@ impl Console {
     pub fn choose_prime(&mut self, p: usize) -> Answer
         ensures { Chosen (PrimeFails p) (modular p) self.old result self.new }
     {
-        self.choose(PrimeField::new(p).map(AnyField::Prime))
+        match PrimeField::new(p) {
+            Ok(field) => self.choose(AnyField::Prime(field)),
+            Err(fault) => Answer::Refused(fault.refusal()),
+        }
     }
 
     // Chooses the field of degree m, with all its elements or two of them as letters.
     pub fn choose_binary(&mut self, m: usize, all: bool) -> Answer
         ensures { Chosen (BinaryFails m) (binary_meaning m all) self.old result self.new }
     {
-        self.choose(BinaryField::new(m, all).map(AnyField::Binary))
+        match BinaryField::new(m, all) {
+            Ok(field) => self.choose(AnyField::Binary(field)),
+            Err(fault) => Answer::Refused(fault.refusal()),
+        }
     }
 
     // The field chosen last.
