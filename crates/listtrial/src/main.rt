@@ -82,7 +82,10 @@ fn is_listed<F: Field>(
         Ok(listing) => {
             listing.words.checked_mul(n) == Some(expected.len())
                 && given.starts_with(expected)
-                && given.iter().skip(expected.len()).all(|place| *place == MARK)
+                && given
+                    .iter()
+                    .skip(expected.len())
+                    .all(|place| *place == MARK)
         }
         Err(_) => false,
     }
