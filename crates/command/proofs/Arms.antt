@@ -3,7 +3,7 @@ use Rattle.std.proofs.Common.{◌≡◌, ℕ, ◌+◌, ◌<◌, ◌≤◌, List,
 use Rattle.std.proofs.lemmas.Result.{err_from_is_err_and}
 use Rattle.command.specs.Lines.{texts, Word}
 use Rattle.command.specs.Runs.{Given, Writes, WritesNone}
-use Rattle.command.proofs.WordTests.{length_texts, text_at}
+use Rattle.command.proofs.WordTexts.{length_texts, text_at}
 use Rattle.console.specs.declared.answer.Answer.{Answer}
 use Rattle.console.specs.declared.answer.Trouble.{Trouble}
 use Rattle.console.specs.declared.answer.Trouble.TheVariants.{Number}

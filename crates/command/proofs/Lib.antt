@@ -3,4 +3,4 @@ pub mod Numbers
 pub mod PlanLines
 pub mod Runs
 pub mod Slashes
-pub mod WordTests
+pub mod WordTexts

@@ -8,7 +8,7 @@ use Rattle.command.specs.Runs.{Writes, WritesNone, SixNumbers, NoNumber, Element
 use Rattle.console.specs.declared.answer.Answer.{Answer}
 use Rattle.console.specs.declared.answer.Trouble.{Trouble}
 use Rattle.command.proofs.Arms.{read, not_a_number}
-use Rattle.command.proofs.WordTests.{text_at}
+use Rattle.command.proofs.WordTexts.{text_at}
 use Rattle.console.specs.declared.answer.Trouble.TheVariants.{Unknown, Number, NoField, Memory}
 use Rattle.console.specs.declared.state.Console.{Console}
 

@@ -1,5 +1,5 @@
 -- What the arms of a line's match show of the line.
-use Rattle.std.proofs.Common.{◌≡◌, ℕ, ◌<◌, ◌-◌, true, false, List, [], length, take, drop, codes, vec_items, Vec, Ok, Err, Result, IsErrAnd, refl, sym, subst, ◌∙◌, ap, inl, inr, Bor}
+use Rattle.std.proofs.Common.{◌≡◌, ℕ, ◌<◌, ◌-◌, true, false, List, length, take, drop, codes, vec_items, Vec, Ok, Err, Result, IsErrAnd, refl, sym, subst, ◌∙◌, ap, inl, inr, Bor}
 use Rattle.std.proofs.lemmas.Result.{err_from_is_err_and}
 use Rattle.std.proofs.lemmas.Slice.Eq.{bytes_eq-Decides}
 use Rattle.std.specs.Str.{bytes_eq}
@@ -8,7 +8,7 @@ use Rattle.command.specs.Lines.{texts, Word, Spells, InField, Verb, Prime, Binar
 use Rattle.command.specs.Runs.{Listed, Ran, RanAmong, RanWord}
 use Rattle.command.proofs.Arms.{read, word_read}
 use Rattle.command.proofs.PlanLines.{texts_rest, no_elements}
-use Rattle.command.proofs.WordTests.{length_texts}
+use Rattle.command.proofs.WordTexts.{length_texts}
 use Rattle.console.specs.declared.answer.Answer.{Answer}
 use Rattle.console.specs.declared.answer.Trouble.{Trouble}
 use Rattle.console.specs.declared.answer.Trouble.TheVariants.{Unknown, Number, NoField, Memory}

@@ -1,5 +1,5 @@
 -- Where the slashes of a line stand.
-use Rattle.std.proofs.Common.{◌≡◌, ℕ, ◌+◌, ◌-◌, ◌<◌, ◌≤◌, List, [], length, get_or, drop, take, Bool, true, false, Some, None, Option, codes, sym, ◌∙◌, ap, subst, arith, Bor, length-drop}
+use Rattle.std.proofs.Common.{◌≡◌, ℕ, ◌+◌, ◌-◌, ◌<◌, ◌≤◌, List, [], length, get_or, drop, Bool, true, false, Some, None, Option, codes, sym, ◌∙◌, subst, arith, Bor, length-drop}
 use Rattle.std.specs.List.{position, position_or_len}
 use Rattle.std.specs.Str.{bytes_eq}
 use Rattle.std.proofs.lemmas.Grind.{common_steps}
@@ -7,9 +7,9 @@ use Rattle.std.proofs.lemmas.List.{get_or-drop}
 use Rattle.std.proofs.lemmas.List.Quantifiers.{position-Some}
 use Rattle.std.proofs.lemmas.List.Sums.{fails_before_first}
 use Rattle.std.proofs.lemmas.Slice.Eq.{bytes_eq-Decides}
-use Rattle.command.specs.Lines.{texts, Word, FirstSlash, Spells, Plan}
+use Rattle.command.specs.Lines.{texts, Word, FirstSlash}
 use Rattle.command.proofs.Arms.{read, has_word, word_read}
-use Rattle.command.proofs.WordTests.{length_texts, text_at}
+use Rattle.command.proofs.WordTexts.{length_texts}
 
 abbrev is_slash : Bor (List ℕ) → Bool
 is_slash = λ w. bytes_eq w.now (codes "/")

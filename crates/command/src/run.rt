@@ -68,6 +68,7 @@ fn run_in_field(console: &mut Console, words: &[&str]) -> Result<Answer, Trouble
 }
 
 // Carries out the line whose words these are.
+#[tactic(auto, using(crate::proofs::Runs::ran_in_field))]
 pub fn run_line(console: &mut Console, heap: Global, words: &[&str]) -> Result<Answer, Trouble>
     ensures { Ran (texts words.now) console.old result console.new }
 {

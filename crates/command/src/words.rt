@@ -1,6 +1,6 @@
-// Reading a line: which command its words spell, and the numbers among them.
-ghost use Rattle.std.specs.Prelude.{◌≡◌, ◌<◌, [], length, IfSome, Decides, slice_index_or};
-ghost use Rattle.command.specs.Lines.{texts, Silent, Word, FirstSlash};
+// Lines that ask for nothing.
+ghost use Rattle.std.specs.Prelude.{Decides};
+ghost use Rattle.command.specs.Lines.{texts, Silent};
 
 // Whether a line asks for nothing: it has no words, or its first word begins with #.
 pub fn passed_over(words: &[&str]) -> bool

@@ -20,17 +20,16 @@ fn carry_out(rt: &HostRuntime, console: &mut Console, number: u64, line: &str) -
 
 fn main(rt: HostRuntime) -> io::Result<()> {
     let mut console = Console::new();
+    // Counted by hand, since the number of lines has no bound that an enumeration could be proved to keep.
     let mut number = 0u64;
     for line in BufReader::new(rt.alloc(), rt.stdin())?.lines(rt.alloc()) {
         number = number.saturating_add(1);
         match line {
             Ok(text) => carry_out(&rt, &mut console, number, text.as_str())?,
-            Err(fault) => {
-                if fault.kind() != io::ErrorKind::InvalidData {
-                    return Err(fault);
-                }
-                println!(rt; "error {number} not text")?;
+            Err(fault) if fault.kind() == io::ErrorKind::InvalidData => {
+                println!(rt; "error {number} not text")?
             }
+            Err(fault) => return Err(fault),
         }
     }
     Ok(())

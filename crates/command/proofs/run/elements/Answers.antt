@@ -1,10 +1,9 @@
-use Rattle.std.proofs.Common.{◌≡◌, ℕ, ◌<◌, [], get_or, Err, vec_items, sym, refl, ◌∙◌, subst, arith}
+use Rattle.std.proofs.Common.{◌≡◌, ℕ, ◌<◌, [], get_or, vec_items, sym, refl, ◌∙◌, subst, arith}
 use Rattle.std.proofs.lemmas.Result.{err_from_is_err_and}
 use Rattle.command.specs.Lines.{texts}
-use Rattle.command.specs.Runs.{Writes, Listed}
-use Rattle.console.specs.declared.answer.Trouble.{Trouble}
+use Rattle.command.specs.Runs.{Writes}
 use Rattle.command.proofs.Numbers.{pushes_more, writes_at, writes_none_at}
-use Rattle.command.proofs.WordTests.{length_texts}
+use Rattle.command.proofs.WordTexts.{length_texts}
 use Rattle.command.proofs.run.elements.Goals as goal
 
 pub loop-word-preserved : goal.loop-word-preserved

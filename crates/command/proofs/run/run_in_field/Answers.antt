@@ -1,7 +1,6 @@
-use Rattle.std.proofs.Common.{refl, inl, inr, arith}
-use Rattle.command.specs.Lines.{texts, Verb, Spells, Prime, BinaryTwo, BinaryAll, Sum, Negative, Product, Inverse, Plan, Check, Write, ListWords}
-use Rattle.command.proofs.Arms.{has_word, has_count, given, not_given, not_a_number, word_read}
-use Rattle.command.proofs.WordTests.{length_texts}
+use Rattle.std.proofs.Common.{refl, inl, arith}
+use Rattle.command.specs.Lines.{Prime, BinaryTwo, BinaryAll, Sum, Negative, Product, Inverse}
+use Rattle.command.proofs.Arms.{has_word, has_count, given, not_given, not_a_number}
 use Rattle.command.proofs.run.run_in_field.Goals as goal
 
 pub returns-in_err-parse-in-field : goal.returns-in_err-parse-in-field

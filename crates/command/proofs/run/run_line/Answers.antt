@@ -1,12 +1,9 @@
-use Rattle.std.proofs.Common.{ℕ, List, refl, subst, inl, inr, arith, rules}
+use Rattle.std.proofs.Common.{refl, inl, arith}
 use Rattle.console.specs.States.{Checked, WrittenOut, ListedOut, OverField}
-use Rattle.command.specs.Lines.{texts, Plan, Check, Write, ListWords}
-use Rattle.command.specs.Runs.{Listed}
+use Rattle.command.specs.Lines.{texts, Check, Write, ListWords}
 use Rattle.command.proofs.Arms.{has_word}
-use Rattle.command.proofs.PlanLines.{texts_rest}
-use Rattle.command.proofs.Runs.{list_read, list_not_read, ran_plan, ran_in_field}
+use Rattle.command.proofs.Runs.{list_read, list_not_read, ran_plan}
 use Rattle.command.proofs.run.run_line.Goals as goal
-use Rattle.command.proofs.run.run_line.Goals.{in_default-via-then-words-lt1, in_default-via-else-words-lt1+in_default}
 
 pub returns-in_err-elements-in-check : goal.returns-in_err-elements-in-check
 returns-in_err-elements-in-check c =
@@ -46,11 +43,3 @@ returns-in-plan c = ran_plan (texts c.args.words.now) c.args.console.now _ _ (ha
 
 pub run_plan-requires : goal.run_plan-requires
 run_plan-requires c = has_word c.args.words.now 0 _ (omega arith) c.in-plan.is-plan
-
-pub returns-in_default : goal.returns-in_default
-returns-in_default c =
-    let words = c.args.words.now in
-    elim c.in_default.branch [
-      | in_default-via-then-words-lt1 w ↦ ran_in_field words c.args.console.now _ _ (λ h _. absurd (grind arith)) (λ h _. absurd (grind arith)) (λ h _. absurd (grind arith)) (λ h _. absurd (grind arith)) c.run_in_field.ensures
-      | in_default-via-else-words-lt1+in_default w ↦ ran_in_field words c.args.console.now _ _ (search rules) (search rules) (search rules) (search rules) c.run_in_field.ensures
-    ]

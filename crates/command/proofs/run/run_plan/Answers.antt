@@ -1,4 +1,4 @@
-use Rattle.std.proofs.Common.{◌≡◌, ℕ, ◌+◌, ◌-◌, ◌≤◌, List, Err, Some, None, Option, length, take, drop, codes, vec_items, refl, sym, subst, subst₂, inl, inr, arith, Bor}
+use Rattle.std.proofs.Common.{◌≡◌, ℕ, ◌+◌, ◌-◌, ◌≤◌, List, Err, Some, None, length, take, drop, codes, vec_items, refl, subst, subst₂, inl, inr, arith, Bor}
 use Rattle.std.proofs.lemmas.Result.{err_from_is_err_and}
 use Rattle.std.specs.List.{position}
 use Rattle.std.specs.Str.{bytes_eq}
