@@ -26,8 +26,8 @@ pub struct Console {
 }
 
 // Whether the word is in the code of the plan over the field, as an answer.
-fn checked<F: Field>(plan: &Plan, field: &F, word: &[u16]) -> Answer
-    ensures { Checked plan.now (F.meaning field.now) word.now result }
+fn checked(plan: &Plan, field: &AnyField, word: &[u16]) -> Answer
+    ensures { Checked plan.now (meaning_in field.now) word.now result }
 {
     match check(plan, field, word) {
         Ok(yes) => Answer::Check(yes),
@@ -36,8 +36,8 @@ fn checked<F: Field>(plan: &Plan, field: &F, word: &[u16]) -> Answer
 }
 
 // The word of the code that begins with the content, as an answer.
-fn written<F: Field>(plan: &Plan, field: &F, content: &[u16]) -> Answer
-    ensures { WrittenOut plan.now (F.meaning field.now) content.now result }
+fn written(plan: &Plan, field: &AnyField, content: &[u16]) -> Answer
+    ensures { WrittenOut plan.now (meaning_in field.now) content.now result }
 {
     let mut place = [0u16; 64];
     match write(plan, field, content, &mut place) {
@@ -47,8 +47,8 @@ fn written<F: Field>(plan: &Plan, field: &F, content: &[u16]) -> Answer
 }
 
 // The words of the code near the word heard, as an answer.
-fn listed<F: Field>(plan: &Plan, field: &F, heard: &[u16]) -> Answer
-    ensures { ListedOut plan.now (F.meaning field.now) heard.now result }
+fn listed(plan: &Plan, field: &AnyField, heard: &[u16]) -> Answer
+    ensures { ListedOut plan.now (meaning_in field.now) heard.now result }
 {
     let mut place = [0u16; 448];
     let mut workspace = [0u16; 32768];

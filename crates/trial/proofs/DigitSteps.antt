@@ -1,5 +1,5 @@
 -- One digit more of a number.
-use Rattle.std.proofs.Common.{◌≡◌, ℕ, ◌+◌, ◌%◌, ◌/◌, ◌^◌, ◌<◌, ◌≢◌, max, List, length, get_or, set, sym, ap, ap₂, ◌∙◌, arith, get_or-set_other, get_or-set_same, below_more}
+use Rattle.std.proofs.Common.{◌≡◌, ℕ, ◌+◌, ◌%◌, ◌/◌, ◌^◌, ◌<◌, ◌≢◌, max, List, length, get_or, set, ap, ap₂, ◌∙◌, arith, get_or-set_other, get_or-set_same, below_more}
 use Rattle.std.proofs.Math.Nat.{div-div-eq-div-mul}
 use Rattle.trial.specs.Words.{digit}
 use Rattle.trial.proofs.Powers.{pow_more}

@@ -1,6 +1,7 @@
 // What the trials of the code share: all words as the digits of a number, and the word that a polynomial gives, by nothing
 // but the field's sums and products, so that no result comes from the crates that are tried.
 #![tactic(auto)]
+
 ghost use Rattle.std.specs.Prelude.{◌≡◌, ℕ, ◌<◌, All, Decides, length, slice_index};
 ghost use Rattle.trial.specs.Words.{digit, count_of, value_of, letter_of};
 

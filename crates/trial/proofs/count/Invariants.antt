@@ -1,4 +1,4 @@
-use Rattle.std.proofs.Common.{◌≡◌, ℕ, ◌^◌}
+use Rattle.std.proofs.Common.{◌≡◌}
 use Rattle.trial.specs.Words.{count_of}
 use Rattle.trial.proofs.count.Given as goal
 
