@@ -26,23 +26,24 @@ fn counted(so_far: u32, holds: bool) -> u32 {
     so_far.saturating_add(u32::from(holds))
 }
 
-// The first word of the code, by a search through all polynomials, that begins with these letters.
-fn searched<F: Field>(plan: &Plan, field: &F, letters: &[u16]) -> Option<[u16; MOST]> {
+// The word that a polynomial of the code gives: its coefficients are the digits of the number.
+fn word_of<F: Field>(plan: &Plan, field: &F, number: u64) -> [u16; MOST] {
+    let coefficients: [u16; MOST] = digits(number, field.size());
     let dimension = plan.dimension().min(MOST);
-    let n = plan.n().min(MOST);
-    for number in 0..count(field.size(), dimension) {
-        let coefficients: [u16; MOST] = digits(number, field.size());
-        let word: [u16; MOST] = evaluation(
-            field,
-            plan.support(),
-            plan.multipliers(),
-            &coefficients[..dimension],
-        );
-        if word.starts_with(letters) && is_word(field, &word[..n]) {
-            return Some(word);
-        }
-    }
-    None
+    evaluation(
+        field,
+        plan.support(),
+        plan.multipliers(),
+        &coefficients[..dimension],
+    )
+}
+
+// The first word of the code, by a search through all polynomials, that begins with these letters. The zeros after a word
+// are letters.
+fn searched<F: Field>(plan: &Plan, field: &F, letters: &[u16]) -> Option<[u16; MOST]> {
+    (0..count(field.size(), plan.dimension()))
+        .map(|number| word_of(plan, field, number))
+        .find(|word| word.starts_with(letters) && is_word(field, word))
 }
 
 // Counts one word, by check and by search.
