@@ -5,7 +5,7 @@ use code::{check, write};
 use field::{BinaryField, Field, FieldFault, PrimeField};
 use plan::{Parameters, Plan};
 use std::io;
-use trial::{count, digits, evaluation, is_word};
+use trial::{count, digits, is_word, word_of};
 
 // The longest word that is tried.
 const MOST: usize = 8;
@@ -26,23 +26,19 @@ fn counted(so_far: u32, holds: bool) -> u32 {
     so_far.saturating_add(u32::from(holds))
 }
 
-// The word that a polynomial of the code gives: its coefficients are the digits of the number.
-fn word_of<F: Field>(plan: &Plan, field: &F, number: u64) -> [u16; MOST] {
-    let coefficients: [u16; MOST] = digits(number, field.size());
-    let dimension = plan.dimension().min(MOST);
-    evaluation(
-        field,
-        plan.support(),
-        plan.multipliers(),
-        &coefficients[..dimension],
-    )
-}
-
 // The first word of the code, by a search through all polynomials, that begins with these letters. The zeros after a word
 // are letters.
 fn searched<F: Field>(plan: &Plan, field: &F, letters: &[u16]) -> Option<[u16; MOST]> {
     (0..count(field.size(), plan.dimension()))
-        .map(|number| word_of(plan, field, number))
+        .map(|number| {
+            word_of(
+                field,
+                plan.support(),
+                plan.multipliers(),
+                plan.dimension(),
+                number,
+            )
+        })
         .find(|word| word.starts_with(letters) && is_word(field, word))
 }
 

@@ -8,7 +8,7 @@ use plan::{Parameters, Plan};
 use std::alloc::Global;
 use std::collections::BTreeSet;
 use std::io;
-use trial::{count, digits, evaluation, is_word};
+use trial::{count, digits, is_word, word_of};
 
 // The longest word that is tried. A shorter one is followed by zeros.
 const MOST: usize = 12;
@@ -30,15 +30,9 @@ struct Tally {
 // All words of a code, by a search through all polynomials: the set has them in rising order and each once.
 fn code_words<F: Field>(heap: Global, plan: &Plan, field: &F) -> io::Result<BTreeSet<[u16; MOST]>> {
     let mut words = BTreeSet::new(heap);
-    let dimension = plan.dimension().min(MOST);
+    let dimension = plan.dimension();
     for number in 0..count(field.size(), dimension) {
-        let coefficients: [u16; MOST] = digits(number, field.size());
-        let word: [u16; MOST] = evaluation(
-            field,
-            plan.support(),
-            plan.multipliers(),
-            &coefficients[..dimension],
-        );
+        let word = word_of(field, plan.support(), plan.multipliers(), dimension, number);
         if is_word(field, &word) {
             words.insert(word)?;
         }

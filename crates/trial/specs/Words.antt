@@ -1,11 +1,15 @@
 -- Words as digits of numbers, and the words that polynomials give.
-use Rattle.std.specs.Prelude.{ℕ, min, max, ◌-◌, ◌/◌, ◌%◌, ◌^◌, List, reverse, length, slice_index, cond, ◌&&◌, nat_lt}
-use Rattle.std.specs.List.{fold}
+use Rattle.std.specs.Prelude.{ℕ, min, max, ◌-◌, ◌/◌, ◌%◌, ◌^◌, List, map, reverse, length, slice_index, cond, ◌&&◌, nat_lt}
+use Rattle.std.specs.List.{fold, range_with_len}
 use Rattle.field.specs.Meaning.{Meaning, sum_of, product_of}
 
 -- digit i of a number in a base, which is 2 at least
 abbrev pub digit : ℕ → ℕ → ℕ → ℕ
 digit number base i = number / max base 2 ^ i % max base 2
+
+-- the first k digits of a number in a base, lowest first
+abbrev pub digits_of : ℕ → ℕ → ℕ → List ℕ
+digits_of k number base = map (λ i. digit number base i) (range_with_len 0 k)
 
 -- the number of lists of n digits, 2^64 - 1 where there are more
 abbrev pub count_of : ℕ → ℕ → ℕ

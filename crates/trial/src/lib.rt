@@ -2,8 +2,8 @@
 // but the field's sums and products, so that no result comes from the crates that are tried.
 #![tactic(auto)]
 
-ghost use Rattle.std.specs.Prelude.{◌≡◌, ℕ, ◌<◌, All, Decides, length, slice_index};
-ghost use Rattle.trial.specs.Words.{digit, count_of, value_of, letter_of};
+ghost use Rattle.std.specs.Prelude.{min, ◌≡◌, ℕ, ◌<◌, All, Decides, length, slice_index};
+ghost use Rattle.trial.specs.Words.{digit, digits_of, count_of, value_of, letter_of};
 
 use field::Field;
 
@@ -76,6 +76,21 @@ pub fn evaluation<F: Field, const N: usize>(
         word[i] = letter(field, support, multipliers, coefficients, i);
     }
     word
+}
+
+// The word that the polynomial of a number gives: its first k coefficients are digits of the number, one for each element.
+pub fn word_of<F: Field, const N: usize>(
+    field: &F,
+    support: &[u16],
+    multipliers: &[u16],
+    k: usize,
+    number: u64,
+) -> [u16; N]
+    ensures many { length result ≡ N }
+    ensures each { (i : ℕ) → i < N → slice_index result i ≡ letter_of (F.meaning field.now) support.now multipliers.now (digits_of (min k N) number (F.meaning field.now).size) i }
+{
+    let coefficients: [u16; N] = digits(number, field.size());
+    evaluation(field, support, multipliers, &coefficients[..k.min(N)])
 }
 
 // Whether all numbers are letters of the field.
