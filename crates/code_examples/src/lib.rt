@@ -9,9 +9,21 @@ mod tests {
     use plan::{Parameters, Plan};
     use std::test::Fail;
 
+    // The plan that is asked for.
+    fn made(asked: Parameters, support: &[u16], multipliers: &[u16]) -> Result<Plan, Fail> {
+        let mut plan = Plan::starting();
+        plan.make(asked, support, multipliers)
+            .map_err(|_| Fail::new("no plan"))?;
+        Ok(plan)
+    }
+
+    // The field of p elements.
+    fn prime(p: usize) -> Result<PrimeField, Fail> {
+        PrimeField::new(p).map_err(|_| Fail::new("no field"))
+    }
+
     #[test]
     fn seven_elements(rt: HostRuntime) -> Result<(), Fail> {
-        let mut plan = Plan::starting();
         let asked = Parameters {
             size: 7,
             n: 7,
@@ -20,12 +32,8 @@ mod tests {
             k: 1,
             l: 2,
         };
-        if let Err(_) = plan.make(asked, &[0, 1, 2, 3, 4, 5, 6], &[1, 1, 1, 1, 1, 1, 1]) {
-            return Err(Fail::new("no plan"));
-        }
-        let Ok(field) = PrimeField::new(7) else {
-            return Err(Fail::new("no field"));
-        };
+        let plan = made(asked, &[0, 1, 2, 3, 4, 5, 6], &[1, 1, 1, 1, 1, 1, 1])?;
+        let field = prime(7)?;
         let mut place = [9u16; 8];
         assert_eq!(rt; write(&plan, &field, &[1, 2, 1], &mut place), Ok(()));
         assert_eq!(rt; place, [1, 2, 1, 5, 0, 0, 5, 9]);
@@ -36,7 +44,6 @@ mod tests {
 
     #[test]
     fn two_letters(rt: HostRuntime) -> Result<(), Fail> {
-        let mut plan = Plan::starting();
         let asked = Parameters {
             size: 4,
             n: 4,
@@ -45,12 +52,8 @@ mod tests {
             k: 1,
             l: 2,
         };
-        if let Err(_) = plan.make(asked, &[0, 1, 2, 3], &[1, 1, 1, 1]) {
-            return Err(Fail::new("no plan"));
-        }
-        let Ok(field) = BinaryField::new(2, false) else {
-            return Err(Fail::new("no field"));
-        };
+        let plan = made(asked, &[0, 1, 2, 3], &[1, 1, 1, 1])?;
+        let field = BinaryField::new(2, false).map_err(|_| Fail::new("no field"))?;
         let mut place = [9u16; 4];
         assert_eq!(rt;
             write(&plan, &field, &[0, 1], &mut place),
@@ -65,7 +68,6 @@ mod tests {
     // The plan over five elements that is asked for below: lists of at most two words, which differ from the word heard
     // at two places at most.
     fn five_plan() -> Result<Plan, Fail> {
-        let mut plan = Plan::starting();
         let asked = Parameters {
             size: 5,
             n: 5,
@@ -74,26 +76,18 @@ mod tests {
             k: 1,
             l: 3,
         };
-        match plan.make(asked, &[0, 1, 2, 3, 4], &[1, 1, 1, 1, 1]) {
-            Ok(()) => Ok(plan),
-            Err(_) => Err(Fail::new("no plan")),
-        }
+        made(asked, &[0, 1, 2, 3, 4], &[1, 1, 1, 1, 1])
     }
 
     // How many words were listed. How many candidates were tested is left out: no example can foretell it.
     fn listed(answer: Result<Listing, CodeFault>) -> Result<usize, CodeFault> {
-        match answer {
-            Ok(listing) => Ok(listing.words),
-            Err(fault) => Err(fault),
-        }
+        answer.map(|listing| listing.words)
     }
 
     #[test]
     fn two_words_and_none(rt: HostRuntime) -> Result<(), Fail> {
         let plan = five_plan()?;
-        let Ok(field) = PrimeField::new(5) else {
-            return Err(Fail::new("no field"));
-        };
+        let field = prime(5)?;
         let mut words = [9u16; 12];
         let mut workspace = [9u16; 32768];
         let answer = list(&plan, &field, &[0, 0, 0, 1, 2], &mut words, &mut workspace);
@@ -109,7 +103,6 @@ mod tests {
 
     #[test]
     fn two_words_of_seven(rt: HostRuntime) -> Result<(), Fail> {
-        let mut plan = Plan::starting();
         let asked = Parameters {
             size: 7,
             n: 7,
@@ -118,12 +111,8 @@ mod tests {
             k: 4,
             l: 8,
         };
-        if let Err(_) = plan.make(asked, &[0, 1, 2, 3, 4, 5, 6], &[1, 1, 1, 1, 1, 1, 1]) {
-            return Err(Fail::new("no plan"));
-        }
-        let Ok(field) = PrimeField::new(7) else {
-            return Err(Fail::new("no field"));
-        };
+        let plan = made(asked, &[0, 1, 2, 3, 4, 5, 6], &[1, 1, 1, 1, 1, 1, 1])?;
+        let field = prime(7)?;
         let mut words = [9u16; 49];
         let mut workspace = [9u16; 32768];
         let heard = [1, 1, 1, 1, 0, 0, 5];
@@ -173,12 +162,8 @@ mod tests {
     #[test]
     fn refused_listings(rt: HostRuntime) -> Result<(), Fail> {
         let plan = five_plan()?;
-        let Ok(five) = PrimeField::new(5) else {
-            return Err(Fail::new("no field"));
-        };
-        let Ok(seven) = PrimeField::new(7) else {
-            return Err(Fail::new("no field"));
-        };
+        let five = prime(5)?;
+        let seven = prime(7)?;
         let heard = [0, 0, 0, 1, 2];
         assert_eq!(rt;
             refusal(&plan, &seven, &[0, 9], 9, 32767),

@@ -1,4 +1,6 @@
+pub mod Arms
 pub mod Numbers
 pub mod PlanLines
-pub mod Verbs
-pub mod WordTests
+pub mod Runs
+pub mod Slashes
+pub mod WordTexts

@@ -1,16 +1,8 @@
 -- Loops that read one number after another.
-use Rattle.std.proofs.Common.{◌≡◌, ℕ, ◌+◌, ◌<◌, ◌≢◌, List, [], length, get_or, set, sym, subst, arith, get_or-set_other, get_or-set_same, Bor, below_more}
+use Rattle.std.proofs.Common.{◌≡◌, ℕ, ◌+◌, ◌<◌, List, [], get_or, sym, subst, Bor, below_more}
 use Rattle.command.specs.Lines.{texts}
 use Rattle.command.specs.Runs.{Writes, WritesNone}
-use Rattle.command.proofs.WordTests.{text_at}
-
--- one more place is written
-pub writes_more : (P : ℕ → ℕ → Type 0) (xs : List ℕ) (i v : ℕ) → i < length xs → ((k : ℕ) → k < i → P k (get_or xs k 0)) → P i v → (k : ℕ) → k < i + 1 → P k (get_or (set xs i v) k 0)
-writes_more P xs i v within before here =
-    below_more (λ k. P k (get_or (set xs i v) k 0)) i (λ k h. kept k h) (subst (P i) (sym (get_or-set_same xs i v 0 within)) here)
-  where
-    kept : (k : ℕ) → k < i → P k (get_or (set xs i v) k 0)
-    kept k h = let ne : k ≢ i = omega arith in rw get_or-set_other (before k h)
+use Rattle.command.proofs.WordTexts.{text_at}
 
 -- one more number is pushed
 pub pushes_more : (P : ℕ → ℕ → Type 0) (xs ys : List ℕ) (i : ℕ) → ((k d : ℕ) → k < i → get_or ys k d ≡ get_or xs k d) → ((k : ℕ) → k < i → P k (get_or xs k 0)) → P i (get_or ys i 0) → (k : ℕ) → k < i + 1 → P k (get_or ys k 0)

@@ -1,8 +1,28 @@
 -- Which words spell which command.
-use Rattle.std.specs.Prelude.{◌≡◌, ℕ, ◌<◌, ◌≤◌, ◌⊎◌, List, [], map, length, Some, None, codes, Option, slice_index, slice_index_or}
+use Rattle.std.specs.Prelude.{◌≡◌, ℕ, ◌<◌, ◌≤◌, ◌⊎◌, List, [], map, length, Some, None, codes, Option, slice_index, slice_index_or, ⊤}
 use Rattle.std.specs.Borrow.{Bor}
-use Rattle.command.specs.declared.words.Verb.{Verb}
-use Rattle.command.specs.declared.words.Verb.TheVariants.{Prime, BinaryTwo, BinaryAll, Sum, Negative, Product, Inverse, Plan, Check, Write, List as ListWords}
+
+-- the commands by their words
+pub data Verb : Type 0 where
+  Prime : Verb
+  BinaryTwo : Verb
+  BinaryAll : Verb
+  Sum : Verb
+  Negative : Verb
+  Product : Verb
+  Inverse : Verb
+  Plan : Verb
+  Check : Verb
+  Write : Verb
+  ListWords : Verb
+
+-- the command chooses a field or calculates in the one chosen
+abbrev pub InField : Verb → Type 0
+InField Plan = ⊥
+InField Check = ⊥
+InField Write = ⊥
+InField ListWords = ⊥
+InField _ = ⊤
 
 -- the texts of the words of a line
 abbrev pub texts : List (Bor (List ℕ)) → List (List ℕ)

@@ -3,10 +3,8 @@ use Rattle.std.specs.Prelude.{◌≡◌, ℕ, ◌+◌, ◌<◌, true, false, ◌
 use Rattle.std.specs.Str.Parse.{ParsesUnsigned}
 use Rattle.std.specs.declared.alloc.Global.{Global}
 use Rattle.plan.specs.declared.asked.Parameters.{Parameters}
-use Rattle.command.specs.Lines.{FirstSlash, Spells}
+use Rattle.command.specs.Lines.{FirstSlash, Spells, Verb, Prime, BinaryTwo, BinaryAll, Sum, Negative, Product, Inverse, Plan, Check, Write, ListWords}
 use Rattle.console.specs.States.{Chosen, Planned, Checked, WrittenOut, ListedOut, OverField, with_field, inverted}
-use Rattle.command.specs.declared.words.Verb.{Verb}
-use Rattle.command.specs.declared.words.Verb.TheVariants.{Prime, BinaryTwo, BinaryAll, Sum, Negative, Product, Inverse, Plan, Check, Write, List as ListWords}
 use Rattle.field.specs.Binary.{binary}
 use Rattle.field.specs.Faults.{PrimeFails, BinaryFails}
 use Rattle.field.specs.Meaning.{sum_of, negative_of, product_of, inverse_of}
@@ -100,6 +98,11 @@ RanVerb Write ws before r after =
     (after ≡ before) × RanWord (λ xs. OverField before.field (λ m. WrittenOut before.plan m xs)) ws r
 RanVerb ListWords ws before r after =
     (after ≡ before) × RanWord (λ xs. OverField before.field (λ m. ListedOut before.plan m xs)) ws r
+
+-- a line does what the command of V does that it spells; one that spells none of V is an error and changes nothing
+abbrev pub RanAmong : (Verb → Type 0) → List (List ℕ) → Console → Result Answer Trouble → Console → Type 0
+RanAmong V ws before r after =
+    ((v : Verb) × V v × Spells v ws × RanVerb v ws before r after) ⊎ (((v : Verb) → V v → Spells v ws → ⊥) × (r ≡ Err Unknown) × (after ≡ before))
 
 -- a line does what the command does that it spells; one that spells none is an error and changes nothing
 abbrev pub Ran : List (List ℕ) → Console → Result Answer Trouble → Console → Type 0

@@ -1,3 +1,4 @@
+pub mod Kinds
 pub mod Spaced
 pub mod States
 pub mod Text

@@ -5,10 +5,8 @@ use Rattle.algebra.specs.Elements.{Elem}
 use Rattle.algebra.specs.Bivariate.{Bivariate}
 use Rattle.fault.specs.First.{Judged}
 use Rattle.field.specs.declared.refusal.FieldFault.{FieldFault}
-use Rattle.field.specs.Binary.{binary}
 use Rattle.field.specs.Faults.{refusal_of}
 use Rattle.field.specs.Meaning.{Meaning, operations}
-use Rattle.field.specs.Modular.{modular}
 use Rattle.plan.specs.declared.asked.Parameters.{Parameters}
 use Rattle.plan.specs.declared.asked.PlanFault.{PlanFault}
 use Rattle.plan.specs.Faults as plan_faults
@@ -26,14 +24,13 @@ use Rattle.console.specs.declared.answer.Answer.TheVariants.{Field, Inverse, Pla
 use Rattle.console.specs.declared.answer.Trouble.{Trouble}
 use Rattle.console.specs.declared.answer.Trouble.TheVariants.{NoField}
 use Rattle.console.specs.declared.state.Console.{Console}
-use Rattle.console.specs.declared.state.Choice.{Choice}
-use Rattle.console.specs.declared.state.Choice.TheVariants.{Nothing, Prime, Binary}
+use Rattle.console.specs.declared.any_field.AnyField.{AnyField}
+use Rattle.console.specs.Kinds.{meaning_in}
 
 -- the meaning of the field that is chosen
-abbrev pub meaning_of : Choice → Option Meaning
-meaning_of Nothing = None
-meaning_of (Prime f) = Some (modular f.p)
-meaning_of (Binary f) = Some (binary f.m f.all)
+abbrev pub meaning_of : Option AnyField → Option Meaning
+meaning_of None = None
+meaning_of (Some f) = Some (meaning_in f)
 
 -- a field is described by its size and its number of letters
 abbrev pub plain : Meaning → Answer
@@ -44,10 +41,9 @@ abbrev pub inverted : Option ℕ → Answer
 inverted o = Inverse o
 
 -- the answer that f gives of the field chosen, or an error where none is
-abbrev pub with_field : Choice → (Meaning → Answer) → Result Answer Trouble
-with_field Nothing f = Err NoField
-with_field (Prime p) f = Ok (f (modular p.p))
-with_field (Binary b) f = Ok (f (binary b.m b.all))
+abbrev pub with_field : Option AnyField → (Meaning → Answer) → Result Answer Trouble
+with_field None f = Err NoField
+with_field (Some field) f = Ok (f (meaning_in field))
 
 -- outcome of a choice of field: made and described, or refused with everything as it was; the plan stays
 abbrev pub ChosenBy : Option FieldFault → Meaning → Console → Answer → Console → Type 0
@@ -102,7 +98,6 @@ abbrev pub ListedOut : Plan → Meaning → List ℕ → Answer → Type 0
 ListedOut p m heard r = (o : Option CodeFault) × Judged code_faults.refusal_of (code_faults.ListFails p m heard 448 32768) o × ListedBy o p m heard r
 
 -- an answer of which P holds over the field chosen, or an error where none is
-abbrev pub OverField : Choice → (Meaning → Answer → Type 0) → Result Answer Trouble → Type 0
-OverField Nothing P r = r ≡ Err NoField
-OverField (Prime f) P r = (a : Answer) × (r ≡ Ok a) × P (modular f.p) a
-OverField (Binary f) P r = (a : Answer) × (r ≡ Ok a) × P (binary f.m f.all) a
+abbrev pub OverField : Option AnyField → (Meaning → Answer → Type 0) → Result Answer Trouble → Type 0
+OverField None P r = r ≡ Err NoField
+OverField (Some f) P r = (a : Answer) × (r ≡ Ok a) × P (meaning_in f) a

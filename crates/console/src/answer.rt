@@ -1,13 +1,14 @@
 // What the console answers, and how it is written.
 ghost use Rattle.std.specs.Prelude.{◌≡◌};
 ghost use Rattle.console.specs.Text.{answer_text, trouble_text};
-ghost use Rattle.console.specs.declared.answer.Trouble.TheVariants.{Memory};
+ghost use Rattle.console.specs.declared.answer.Trouble.TheVariants.{Number, Memory};
 
-use crate::word::{Letters, Word};
-use crate::words::{Lines, Words};
+use crate::word::Word;
+use crate::words::Words;
 use fault::Refusal;
 use std::alloc::{AllocError, AllocFailed};
 use std::fmt;
+use std::num::ParseIntError;
 
 // The answer to a command.
 #[derive(Clone, Copy, Debug)]
@@ -47,17 +48,11 @@ impl fmt::Display for Answer {
             Answer::PlanMade => write!(f, "plan made"),
             Answer::Check(true) => write!(f, "check yes"),
             Answer::Check(false) => write!(f, "check no"),
-            Answer::Write(word) => {
-                let letters = Letters {
-                    letters: word.letters(),
-                };
-                write!(f, "write{letters}")
-            }
+            Answer::Write(word) => write!(f, "write{word}"),
             Answer::List(words) => {
                 let count = words.count();
                 let tested = words.tested();
-                let lines = Lines { words };
-                write!(f, "list {count} {tested}{lines}")
+                write!(f, "list {count} {tested}{words}")
             }
             Answer::Refused(refusal) => write!(f, "{refusal}"),
         }
@@ -74,6 +69,14 @@ impl fmt::Display for Trouble {
             Trouble::NoField => write!(f, "no field is chosen"),
             Trouble::Memory => write!(f, "out of memory"),
         }
+    }
+}
+
+impl From<ParseIntError> for Trouble {
+    ghost from_gives = { λ _ t. t ≡ Number };
+
+    fn from(_: ParseIntError) -> Self {
+        Self::Number
     }
 }
 

@@ -3,10 +3,12 @@
 #![tactic(auto)]
 
 pub mod answer;
+pub mod any_field;
 pub mod state;
 pub mod word;
 pub mod words;
 
 pub use answer::{Answer, Trouble};
+pub use any_field::AnyField;
 pub use state::Console;
 pub use word::Letters;

@@ -1,8 +1,10 @@
 // The console's state: the field chosen last and the plan made last, and what each command does to them.
-ghost use Rattle.std.specs.Prelude.{◌≡◌};
-ghost use Rattle.console.specs.States.{meaning_of, Chosen, Planned, Checked, WrittenOut, ListedOut, OverField, with_field, plain, inverted};
+ghost use Rattle.std.specs.Prelude.{◌≡◌, Some, None};
+ghost use Rattle.std.specs.Option.{ok_or};
+ghost use Rattle.console.specs.Kinds.{meaning_in};
+ghost use Rattle.console.specs.States.{Chosen, Planned, Checked, WrittenOut, ListedOut, OverField, with_field, plain, inverted};
 ghost use Rattle.console.specs.declared.answer.Answer.TheVariants.{Sum, Negative, Product};
-ghost use Rattle.console.specs.declared.state.Choice.TheVariants.{Nothing};
+ghost use Rattle.console.specs.declared.answer.Trouble.TheVariants.{NoField};
 ghost use Rattle.field.specs.Binary.{binary as binary_meaning};
 ghost use Rattle.field.specs.Faults.{PrimeFails, BinaryFails};
 ghost use Rattle.field.specs.Meaning.{sum_of, negative_of, product_of, inverse_of};
@@ -11,38 +13,21 @@ ghost use Rattle.plan.specs.Plans.{Asked, starting_numbers, starting_support, st
 
 use crate::word::Word;
 use crate::words::Words;
-use crate::{Answer, Trouble};
+use crate::{Answer, AnyField, Trouble};
 use code::{check, list, write};
 use field::{BinaryField, Field, PrimeField};
 use plan::{Parameters, Plan};
 
-// The field chosen last, of one of the kinds.
-#[derive(Clone, Copy)]
-pub enum Choice {
-    Nothing,
-    Prime(PrimeField),
-    Binary(BinaryField),
-}
-
+// The field chosen last, if one was, and the plan made last.
 #[derive(Clone, Copy)]
 pub struct Console {
-    field: Choice,
+    field: Option<AnyField>,
     plan: Plan,
 }
 
-// What a field has and how many letters.
-fn described<F: Field>(field: &F) -> Answer
-    ensures { result ≡ plain (F.meaning field.now) }
-{
-    Answer::Field {
-        size: field.size(),
-        letters: field.letters(),
-    }
-}
-
 // Whether the word is in the code of the plan over the field, as an answer.
-fn checked<F: Field>(plan: &Plan, field: &F, word: &[u16]) -> Answer
-    ensures { Checked plan.now (F.meaning field.now) word.now result }
+fn checked(plan: &Plan, field: &AnyField, word: &[u16]) -> Answer
+    ensures { Checked plan.now (meaning_in field.now) word.now result }
 {
     match check(plan, field, word) {
         Ok(yes) => Answer::Check(yes),
@@ -51,8 +36,8 @@ fn checked<F: Field>(plan: &Plan, field: &F, word: &[u16]) -> Answer
 }
 
 // The word of the code that begins with the content, as an answer.
-fn written<F: Field>(plan: &Plan, field: &F, content: &[u16]) -> Answer
-    ensures { WrittenOut plan.now (F.meaning field.now) content.now result }
+fn written(plan: &Plan, field: &AnyField, content: &[u16]) -> Answer
+    ensures { WrittenOut plan.now (meaning_in field.now) content.now result }
 {
     let mut place = [0u16; 64];
     match write(plan, field, content, &mut place) {
@@ -62,8 +47,8 @@ fn written<F: Field>(plan: &Plan, field: &F, content: &[u16]) -> Answer
 }
 
 // The words of the code near the word heard, as an answer.
-fn listed<F: Field>(plan: &Plan, field: &F, heard: &[u16]) -> Answer
-    ensures { ListedOut plan.now (F.meaning field.now) heard.now result }
+fn listed(plan: &Plan, field: &AnyField, heard: &[u16]) -> Answer
+    ensures { ListedOut plan.now (meaning_in field.now) heard.now result }
 {
     let mut place = [0u16; 448];
     let mut workspace = [0u16; 32768];
@@ -79,11 +64,22 @@ fn listed<F: Field>(plan: &Plan, field: &F, heard: &[u16]) -> Answer
 impl Console {
     // No field is chosen at first, and the plan is the starting plan.
     pub fn new() -> Console
-        ensures { (result.field ≡ Nothing) × (Asked starting_numbers starting_support starting_multipliers result.plan) }
+        ensures { (result.field ≡ None) × (Asked starting_numbers starting_support starting_multipliers result.plan) }
     {
         Console {
-            field: Choice::Nothing,
+            field: None,
             plan: Plan::starting(),
+        }
+    }
+
+    // Chooses the field, and describes it.
+    fn choose(&mut self, field: AnyField) -> Answer
+        ensures { (result ≡ plain (meaning_in field)) × (self.new.field ≡ Some field) × (self.new.plan ≡ self.old.plan) }
+    {
+        self.field = Some(field);
+        Answer::Field {
+            size: field.size(),
+            letters: field.letters(),
         }
     }
 
@@ -92,10 +88,7 @@ impl Console {
         ensures { Chosen (PrimeFails p) (modular p) self.old result self.new }
     {
         match PrimeField::new(p) {
-            Ok(field) => {
-                self.field = Choice::Prime(field);
-                described(&field)
-            }
+            Ok(field) => self.choose(AnyField::Prime(field)),
             Err(fault) => Answer::Refused(fault.refusal()),
         }
     }
@@ -105,56 +98,44 @@ impl Console {
         ensures { Chosen (BinaryFails m) (binary_meaning m all) self.old result self.new }
     {
         match BinaryField::new(m, all) {
-            Ok(field) => {
-                self.field = Choice::Binary(field);
-                described(&field)
-            }
+            Ok(field) => self.choose(AnyField::Binary(field)),
             Err(fault) => Answer::Refused(fault.refusal()),
         }
+    }
+
+    // The field chosen last.
+    fn chosen(&self) -> Result<AnyField, Trouble>
+        ensures { result ≡ ok_or self.now.field NoField }
+    {
+        self.field.ok_or(Trouble::NoField)
     }
 
     pub fn sum(&self, a: u16, b: u16) -> Result<Answer, Trouble>
         ensures { result ≡ with_field self.now.field (λ m. Sum (sum_of m a b)) }
     {
-        let chosen = self.field;
-        match chosen {
-            Choice::Prime(field) => Ok(Answer::Sum(field.sum(a, b))),
-            Choice::Binary(field) => Ok(Answer::Sum(field.sum(a, b))),
-            Choice::Nothing => Err(Trouble::NoField),
-        }
+        let field = self.chosen()?;
+        Ok(Answer::Sum(field.sum(a, b)))
     }
 
     pub fn negative(&self, a: u16) -> Result<Answer, Trouble>
         ensures { result ≡ with_field self.now.field (λ m. Negative (negative_of m a)) }
     {
-        let chosen = self.field;
-        match chosen {
-            Choice::Prime(field) => Ok(Answer::Negative(field.negative(a))),
-            Choice::Binary(field) => Ok(Answer::Negative(field.negative(a))),
-            Choice::Nothing => Err(Trouble::NoField),
-        }
+        let field = self.chosen()?;
+        Ok(Answer::Negative(field.negative(a)))
     }
 
     pub fn product(&self, a: u16, b: u16) -> Result<Answer, Trouble>
         ensures { result ≡ with_field self.now.field (λ m. Product (product_of m a b)) }
     {
-        let chosen = self.field;
-        match chosen {
-            Choice::Prime(field) => Ok(Answer::Product(field.product(a, b))),
-            Choice::Binary(field) => Ok(Answer::Product(field.product(a, b))),
-            Choice::Nothing => Err(Trouble::NoField),
-        }
+        let field = self.chosen()?;
+        Ok(Answer::Product(field.product(a, b)))
     }
 
     pub fn inverse(&self, a: u16) -> Result<Answer, Trouble>
         ensures { result ≡ with_field self.now.field (λ m. inverted (inverse_of m a)) }
     {
-        let chosen = self.field;
-        match chosen {
-            Choice::Prime(field) => Ok(Answer::Inverse(field.inverse(a))),
-            Choice::Binary(field) => Ok(Answer::Inverse(field.inverse(a))),
-            Choice::Nothing => Err(Trouble::NoField),
-        }
+        let field = self.chosen()?;
+        Ok(Answer::Inverse(field.inverse(a)))
     }
 
     // Makes the plan that is asked for, in the place of the one before.
@@ -171,38 +152,23 @@ impl Console {
     pub fn check(&self, word: &[u16]) -> Result<Answer, Trouble>
         ensures { OverField self.now.field (λ m. Checked self.now.plan m word.now) result }
     {
-        let chosen = self.field;
-        let plan = self.plan;
-        match chosen {
-            Choice::Prime(field) => Ok(checked(&plan, &field, word)),
-            Choice::Binary(field) => Ok(checked(&plan, &field, word)),
-            Choice::Nothing => Err(Trouble::NoField),
-        }
+        let field = self.chosen()?;
+        Ok(checked(&self.plan, &field, word))
     }
 
     // The word of the code that begins with the content.
     pub fn write(&self, content: &[u16]) -> Result<Answer, Trouble>
         ensures { OverField self.now.field (λ m. WrittenOut self.now.plan m content.now) result }
     {
-        let chosen = self.field;
-        let plan = self.plan;
-        match chosen {
-            Choice::Prime(field) => Ok(written(&plan, &field, content)),
-            Choice::Binary(field) => Ok(written(&plan, &field, content)),
-            Choice::Nothing => Err(Trouble::NoField),
-        }
+        let field = self.chosen()?;
+        Ok(written(&self.plan, &field, content))
     }
 
     // Every word of the code within the plan's errors of the word heard.
     pub fn list(&self, heard: &[u16]) -> Result<Answer, Trouble>
         ensures { OverField self.now.field (λ m. ListedOut self.now.plan m heard.now) result }
     {
-        let chosen = self.field;
-        let plan = self.plan;
-        match chosen {
-            Choice::Prime(field) => Ok(listed(&plan, &field, heard)),
-            Choice::Binary(field) => Ok(listed(&plan, &field, heard)),
-            Choice::Nothing => Err(Trouble::NoField),
-        }
+        let field = self.chosen()?;
+        Ok(listed(&self.plan, &field, heard))
     }
 }

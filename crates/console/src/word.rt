@@ -4,7 +4,7 @@ ghost use Rattle.console.specs.Spaced.{spaced};
 
 use std::fmt;
 
-// A word of n letters.
+// A word of n letters. It is no ArrayVec, since an answer is Copy and an ArrayVec is not.
 #[derive(Clone, Copy, Debug)]
 pub struct Word {
     letters: [u16; 64],
@@ -25,8 +25,19 @@ impl Word {
     pub fn letters(&self) -> &[u16]
         ensures { result.now ≡ take self.now.n self.now.letters }
     {
-        let n = self.n;
-        &self.letters[0..n]
+        &self.letters[..self.n]
+    }
+}
+
+// The letters, each with a blank before it.
+impl fmt::Display for Word {
+    ghost output = { λ x. Some (spaced (take x.n x.letters)) };
+
+    fn fmt<W: fmt::Write>(&self, f: &mut fmt::Formatter<W>) -> fmt::Result {
+        let letters = Letters {
+            letters: self.letters(),
+        };
+        write!(f, "{letters}")
     }
 }
 

@@ -6,7 +6,7 @@ use crate::word::Letters;
 use std::fmt;
 
 // So many words of n letters each, one after the other, and how many candidates were tested for them. A plan lists at most
-// seven words, of at most 64 letters each.
+// seven words, of at most 64 letters each. It shares no type with a word, which has neither a count nor a number tested.
 #[derive(Clone, Copy, Debug)]
 pub struct Words {
     list: [u16; 448],
@@ -53,20 +53,15 @@ impl Words {
     }
 }
 
-// The words of a list, each on a line of its own; the line before them is not ended yet.
-#[derive(Clone, Copy)]
-pub struct Lines<'a> {
-    pub words: &'a Words,
-}
-
-impl<'a> fmt::Display for Lines<'a> {
-    ghost output = { λ x. Some (lined (words_of x.words.now.n x.words.now.count x.words.now.list)) };
+// The words, each on a line of its own; the line before them is not ended yet.
+impl fmt::Display for Words {
+    ghost output = { λ x. Some (lined (words_of x.n x.count x.list)) };
 
     fn fmt<W: fmt::Write>(&self, f: &mut fmt::Formatter<W>) -> fmt::Result {
-        let words = self.words;
-        for i in 0..words.count() {
+        // By number: chunks_exact wants n to be more than 0, which the type would have to say for this loop alone.
+        for i in 0..self.count {
             let letters = Letters {
-                letters: words.word(i),
+                letters: self.word(i),
             };
             write!(f, "\nword{letters}")?;
         }

@@ -7,7 +7,7 @@ use std::io;
 use std::io::{BufRead, BufReader};
 
 // Carries out one line, whose number is for the error that it may be.
-fn carry_out(rt: &HostRuntime, console: &mut Console, number: u64, line: &str) -> io::Result<()> {
+fn carry_out(rt: &HostRuntime, console: &mut Console, number: usize, line: &str) -> io::Result<()> {
     let words: Vec<&str> = line.split_whitespace().collect(rt.alloc())?;
     if passed_over(&words) {
         return Ok(());
@@ -20,17 +20,17 @@ fn carry_out(rt: &HostRuntime, console: &mut Console, number: u64, line: &str) -
 
 fn main(rt: HostRuntime) -> io::Result<()> {
     let mut console = Console::new();
-    let mut number = 0u64;
-    for line in BufReader::new(rt.alloc(), rt.stdin())?.lines(rt.alloc()) {
-        number = number.saturating_add(1);
+    for (i, line) in BufReader::new(rt.alloc(), rt.stdin())?
+        .lines(rt.alloc())
+        .enumerate()
+    {
+        let number = i.saturating_add(1);
         match line {
             Ok(text) => carry_out(&rt, &mut console, number, text.as_str())?,
-            Err(fault) => {
-                if fault.kind() != io::ErrorKind::InvalidData {
-                    return Err(fault);
-                }
-                println!(rt; "error {number} not text")?;
+            Err(fault) if fault.kind() == io::ErrorKind::InvalidData => {
+                println!(rt; "error {number} not text")?
             }
+            Err(fault) => return Err(fault),
         }
     }
     Ok(())

@@ -1,0 +1,3 @@
+pub mod FirstDigits
+pub mod Powers
+pub mod DigitSteps

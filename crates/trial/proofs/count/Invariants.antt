@@ -1,0 +1,7 @@
+use Rattle.std.proofs.Common.{◌≡◌}
+use Rattle.trial.specs.Words.{count_of}
+use Rattle.trial.proofs.count.Given as goal
+
+-- the lists of the digits so far
+abbrev pub invariant-loop-digit : goal.invariant-loop-digit
+invariant-loop-digit l = l.all ≡ count_of l.fn.base l._digit
