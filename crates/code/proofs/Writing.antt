@@ -63,16 +63,13 @@ module _ (p : Plan) (m : Meaning) (content : List ℕ) (room : ℕ) where
           (omega (arith, ltb-false room n s.1), word_of p m content xs ext (whole.0 s.0))
 
 -- the word in front of what stood in the place
-pub put : (p : Plan) (n : ℕ) (word place part : List ℕ)
-    → n ≡ p.n
-    → part ≡ take n word
-    → (m : Meaning) (content : List ℕ)
+pub put : (p : Plan) (m : Meaning) (content word place after : List ℕ)
     → WordOf p m content (take p.n word)
-    → Written p m content place (part ++ drop n place)
-put p n word place part e c m content w =
-    let q : part ≡ take p.n word = c ∙ ap (λ x. take x word) e in
-    let l : length part ≡ p.n = ap length q ∙ w.member.long in
+    → after ≡ take p.n word ++ drop p.n place
+    → Written p m content place after
+put p m content word place after w e =
+    let l : length (take p.n word) ≡ p.n = w.member.long in
     record {
-      word = subst (WordOf p m content) (sym (take_at part (drop n place) p.n l ∙ q)) w;
-      rest = drop_at part (drop n place) p.n l ∙ ap (λ x. drop x place) e;
+      word = subst (WordOf p m content) (sym (ap (take p.n) e ∙ take_at (take p.n word) (drop p.n place) p.n l)) w;
+      rest = ap (drop p.n) e ∙ drop_at (take p.n word) (drop p.n place) p.n l;
     }

@@ -1,9 +1,8 @@
 // Writing the word that a content begins: everything is decided before the place is touched, so
 // that a refusal leaves it as it was.
-ghost use Rattle.std.specs.Prelude.{◌≡◌, ℕ, ◌≤◌, List, length, take, IfOk, Decides, MatchResult};
+ghost use Rattle.std.specs.Prelude.{◌≡◌, ◌≤◌, ◌++◌, length, take, drop, IfOk, Decides, MatchResult};
 ghost use Rattle.std.specs.Result.{result_err};
 ghost use Rattle.fault.specs.First.{Judged};
-ghost use Rattle.field.specs.Meaning.{Meaning};
 ghost use Rattle.code.specs.Codes.{Letters, WordOf, Written};
 ghost use Rattle.code.specs.Extension.{last_fault};
 ghost use Rattle.code.specs.Faults.{refusal_of, WriteFails};
@@ -47,14 +46,16 @@ impl<'a, F: Field> PlanCode<'a, F> {
         Ok(extended)
     }
 
+    // Puts the word at the start of the place.
     fn put_down(&self, word: &[u16; MAX_N], place: &mut [u16])
         requires { self.now.plan.now.n ≤ length place.old }
-        ensures { (m : Meaning) (content : List ℕ) → WordOf self.now.plan.now m content (take self.now.plan.now.n word.now) → Written self.now.plan.now m content place.old place.new }
+        ensures { place.new ≡ take self.now.plan.now.n word.now ++ drop self.now.plan.now.n place.old }
     {
         let n = self.plan.n();
         place[..n].copy_from_slice(&word[..n]);
     }
 
+    #[tactic(auto, using(crate::proofs::Writing::put))]
     fn write(&self, content: &[u16], place: &mut [u16]) -> Result<(), CodeFault>
         ensures judged { Judged refusal_of (WriteFails self.now.plan.now (F.meaning self.now.field.now) content.now (length place.old)) (result_err result) }
         ensures written { MatchResult result (λ _. Written self.now.plan.now (F.meaning self.now.field.now) content.now place.old place.new) (λ _. place.new ≡ place.old) }

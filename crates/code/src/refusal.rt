@@ -48,11 +48,3 @@ impl From<CodeFault> for Refusal {
         }
     }
 }
-
-impl CodeFault {
-    pub fn refusal(self) -> Refusal
-        ensures { result ≡ refusal_of self }
-    {
-        Refusal::from(self)
-    }
-}

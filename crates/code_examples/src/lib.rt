@@ -145,7 +145,7 @@ mod tests {
         );
         let kept = words == [9; 10] && workspace == [9; 32768];
         match answer {
-            Err(fault) if kept => Some(fault.refusal()),
+            Err(fault) if kept => Some(fault.into()),
             _ => None,
         }
     }

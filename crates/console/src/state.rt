@@ -31,7 +31,7 @@ fn checked(plan: &Plan, field: &AnyField, word: &[u16]) -> Answer
 {
     match check(plan, field, word) {
         Ok(yes) => Answer::Check(yes),
-        Err(fault) => Answer::Refused(fault.refusal()),
+        Err(fault) => Answer::Refused(fault.into()),
     }
 }
 
@@ -42,7 +42,7 @@ fn written(plan: &Plan, field: &AnyField, content: &[u16]) -> Answer
     let mut place = [0u16; 64];
     match write(plan, field, content, &mut place) {
         Ok(()) => Answer::Write(Word::new(place, plan.n())),
-        Err(fault) => Answer::Refused(fault.refusal()),
+        Err(fault) => Answer::Refused(fault.into()),
     }
 }
 
@@ -57,7 +57,7 @@ fn listed(plan: &Plan, field: &AnyField, heard: &[u16]) -> Answer
             let words = Words::new(place, plan.n(), listing.words, listing.tested);
             Answer::List(words)
         }
-        Err(fault) => Answer::Refused(fault.refusal()),
+        Err(fault) => Answer::Refused(fault.into()),
     }
 }
 
@@ -89,7 +89,7 @@ impl Console {
     {
         match PrimeField::new(p) {
             Ok(field) => self.choose(AnyField::Prime(field)),
-            Err(fault) => Answer::Refused(fault.refusal()),
+            Err(fault) => Answer::Refused(fault.into()),
         }
     }
 
@@ -99,7 +99,7 @@ impl Console {
     {
         match BinaryField::new(m, all) {
             Ok(field) => self.choose(AnyField::Binary(field)),
-            Err(fault) => Answer::Refused(fault.refusal()),
+            Err(fault) => Answer::Refused(fault.into()),
         }
     }
 
@@ -144,7 +144,7 @@ impl Console {
     {
         match self.plan.make(asked, support, multipliers) {
             Ok(()) => Answer::PlanMade,
-            Err(fault) => Answer::Refused(fault.refusal()),
+            Err(fault) => Answer::Refused(fault.into()),
         }
     }
 

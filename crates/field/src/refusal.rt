@@ -26,11 +26,3 @@ impl From<FieldFault> for Refusal {
         }
     }
 }
-
-impl FieldFault {
-    pub fn refusal(self) -> Refusal
-        ensures { result ≡ refusal_of self }
-    {
-        Refusal::from(self)
-    }
-}

@@ -47,11 +47,3 @@ impl From<PlanFault> for Refusal {
         }
     }
 }
-
-impl PlanFault {
-    pub fn refusal(self) -> Refusal
-        ensures { result ≡ refusal_of self }
-    {
-        Refusal::from(self)
-    }
-}

@@ -7,4 +7,4 @@ use Rattle.console.proofs.state.Console.plan.Goals as goal
 pub returns-in-Err : goal.returns-in-Err
 returns-in-Err c =
     let told = c.in-Err.ensures in
-    (Some c.in-Err.fault, told.judged, (ap {B = Answer} Refused c.refusal.ensures, ap {B = Console} (λ p. record { field = c.args.self.now.field; plan = p }) told.written))
+    (Some c.in-Err.fault, told.judged, (ap {B = Answer} Refused c.into.ensures, ap {B = Console} (λ p. record { field = c.args.self.now.field; plan = p }) told.written))
