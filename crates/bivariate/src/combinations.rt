@@ -6,7 +6,8 @@ use crate::bounds::{Bounds, Polynomial, Row};
 use crate::values::multiply_x_plus;
 use field::{Field, multiply_add};
 
-// Adds the multiple of the source by the factor to the target, in the first len coefficients.
+// Adds the multiple of the source by the factor to the target, in the first len coefficients. Here and below len only bounds
+// the work: it is worked out from the bounds of a polynomial for each row, and a row has its 256 coefficients whatever it is.
 #[tactic(auto, using(crate::proofs::Parts::part_none, crate::proofs::Writing::plus_more, crate::proofs::Writing::plus_all))]
 pub(crate) fn add_multiple<F: Field>(
     field: &F,
@@ -60,7 +61,8 @@ pub fn multiply_x_minus<F: Field>(field: &F, row: &mut Row, a: u16, len: usize)
     multiply_x_plus(field, row, len, field.negative(a), 0);
 }
 
-// Multiplies the polynomial by x − a, within the bounds of the product.
+// Multiplies the polynomial by x − a, within the bounds of the product. Its loop is that of the subtraction with another call
+// in it; one function that takes the call as a closure over lent rows is no plainer.
 #[tactic(auto, using(crate::proofs::Parts::part_none, crate::proofs::Writing::times_more, crate::proofs::Writing::times_all))]
 pub fn multiply_polynomial<F: Field>(field: &F, q: &mut Polynomial, a: u16, bounds: Bounds)
     ensures { q.new ≡ times_polynomial_of (F.meaning field.now) a bounds.l bounds.bound bounds.weight q.old }

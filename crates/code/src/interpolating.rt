@@ -23,29 +23,22 @@ impl<'a, F: Field> PlanCode<'a, F> {
         }
     }
 
-    // The point of letter i, with the plan's multiplicity.
-    fn place(&self, heard: &[u16], i: usize) -> Place
-        requires inside { i < self.now.plan.now.n }
-        requires long { length heard.now ≡ self.now.plan.now.n }
-        ensures { result ≡ place_at self.now.plan.now (F.meaning self.now.field.now) heard.now i }
-    {
-        Place {
-            abscissa: self.plan.support()[i],
-            ordinate: quotient(self.field, heard[i], self.plan.multipliers()[i]),
-            multiplicity: self.plan.k(),
-        }
-    }
-
-    // The places of the word heard.
+    // The places of the word heard: each letter at its element of the support, over its multiplier.
     #[tactic(auto, using(crate::proofs::Pointing::pointed_none, crate::proofs::Pointing::pointed_room, crate::proofs::Pointing::pointed_more, crate::proofs::Pointing::pointed_all))]
     fn places(&self, heard: &[u16]) -> ArrayVec<Place, 64>
         requires { length heard.now ≡ self.now.plan.now.n }
         ensures { result.items ≡ places_of self.now.plan.now (F.meaning self.now.field.now) heard.now }
     {
+        let support = self.plan.support();
+        let multipliers = self.plan.multipliers();
         let mut places = ArrayVec::new();
-        // By index, since each place is of three lists: the support, the multipliers and the word heard.
+        // By index, since each place is made of three lists: a zip of three is no plainer.
         for i in 0..heard.len() {
-            places.push(self.place(heard, i));
+            places.push(Place {
+                abscissa: support[i],
+                ordinate: quotient(self.field, heard[i], multipliers[i]),
+                multiplicity: self.plan.k(),
+            });
         }
         places
     }

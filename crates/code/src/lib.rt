@@ -13,7 +13,7 @@ mod plan_code;
 mod refusal;
 
 pub use encode::write;
-pub use listing::{Listing, list, ready};
+pub use listing::{Listing, WORKSPACE, list, ready};
 pub use member::check;
 pub use picking::pick;
 pub use refusal::CodeFault;

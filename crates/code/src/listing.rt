@@ -24,6 +24,9 @@ pub struct Listing {
     pub tested: usize,
 }
 
+// How many numbers of a workspace a listing wants.
+pub const WORKSPACE: usize = WRITTEN;
+
 // Room for the list is wanted before room to work in.
 fn judge_space(room: usize, wanted: usize, workspace: usize) -> Result<(), CodeFault>
     ensures { result_err result ≡ space_fault room wanted workspace }
@@ -31,7 +34,7 @@ fn judge_space(room: usize, wanted: usize, workspace: usize) -> Result<(), CodeF
     if room < wanted {
         return Err(CodeFault::Room);
     }
-    if workspace < WRITTEN {
+    if workspace < WORKSPACE {
         return Err(CodeFault::Workspace);
     }
     Ok(())

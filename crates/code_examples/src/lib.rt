@@ -3,7 +3,7 @@
 
 #[cfg(test)]
 mod tests {
-    use code::{CodeFault, Listing, check, list, pick, write};
+    use code::{CodeFault, Listing, WORKSPACE, check, list, pick, write};
     use fault::{Layer, Refusal};
     use field::{BinaryField, PrimeField};
     use plan::{Parameters, Plan};
@@ -89,7 +89,7 @@ mod tests {
         let plan = five_plan()?;
         let field = prime(5)?;
         let mut words = [9u16; 12];
-        let mut workspace = [9u16; 32768];
+        let mut workspace = [9u16; WORKSPACE];
         let answer = list(&plan, &field, &[0, 0, 0, 1, 2], &mut words, &mut workspace);
         assert_eq!(rt; listed(answer), Ok(2));
         assert_eq!(rt; words, [0, 0, 0, 0, 0, 3, 4, 0, 1, 2, 9, 9]);
@@ -114,7 +114,7 @@ mod tests {
         let plan = made(asked, &[0, 1, 2, 3, 4, 5, 6], &[1, 1, 1, 1, 1, 1, 1])?;
         let field = prime(7)?;
         let mut words = [9u16; 49];
-        let mut workspace = [9u16; 32768];
+        let mut workspace = [9u16; WORKSPACE];
         let heard = [1, 1, 1, 1, 0, 0, 5];
         let answer = list(&plan, &field, &heard, &mut words, &mut workspace);
         assert_eq!(rt; listed(answer), Ok(2));
@@ -133,9 +133,9 @@ mod tests {
         work: usize,
     ) -> Option<Refusal> {
         let room = room.min(10);
-        let work = work.min(32768);
+        let work = work.min(WORKSPACE);
         let mut words = [9u16; 10];
-        let mut workspace = [9u16; 32768];
+        let mut workspace = [9u16; WORKSPACE];
         let answer = list(
             plan,
             field,
@@ -143,7 +143,7 @@ mod tests {
             &mut words[0..room],
             &mut workspace[0..work],
         );
-        let kept = words == [9; 10] && workspace == [9; 32768];
+        let kept = words == [9; 10] && workspace == [9; WORKSPACE];
         match answer {
             Err(fault) if kept => Some(fault.into()),
             _ => None,

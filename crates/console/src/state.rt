@@ -14,7 +14,7 @@ ghost use Rattle.plan.specs.Plans.{Asked, starting_numbers, starting_support, st
 use crate::word::Word;
 use crate::words::Words;
 use crate::{Answer, AnyField, Trouble};
-use code::{check, list, write};
+use code::{WORKSPACE, check, list, write};
 use field::{BinaryField, Field, PrimeField};
 use plan::{Parameters, Plan};
 
@@ -51,7 +51,7 @@ fn listed(plan: &Plan, field: &AnyField, heard: &[u16]) -> Answer
     ensures { ListedOut plan.now (meaning_in field.now) heard.now result }
 {
     let mut place = [0u16; 448];
-    let mut workspace = [0u16; 32768];
+    let mut workspace = [0u16; WORKSPACE];
     match list(plan, field, heard, &mut place, &mut workspace) {
         Ok(listing) => {
             let words = Words::new(place, plan.n(), listing.words, listing.tested);

@@ -2,7 +2,7 @@
 // are made once and put in order here, so that neither the words nor their order come from what is tried.
 #![tactic(auto)]
 
-use code::list;
+use code::{WORKSPACE, list};
 use field::{BinaryField, Field, FieldFault, PrimeField};
 use plan::{Parameters, Plan};
 use std::alloc::Global;
@@ -16,8 +16,6 @@ const MOST: usize = 12;
 const ROOM: usize = 96;
 // What the list is filled with before: no field has so large a letter.
 const MARK: u16 = 999;
-// The room that a listing wants to work in.
-const WORKSPACE: usize = 32768;
 
 // How many words were heard, for how many the two lists are equal, and how many words the longest list has.
 #[derive(Clone, Copy, Default)]

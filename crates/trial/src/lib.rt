@@ -71,9 +71,8 @@ pub fn evaluation<F: Field, const N: usize>(
     ensures each { (i : ℕ) → i < N → slice_index result i ≡ letter_of (F.meaning field.now) support.now multipliers.now coefficients.now i }
 {
     let mut word = [0u16; N];
-    // By index: of array::from_fn a proof knows each result only at some state of the closure, not at these slices.
-    for i in 0..N {
-        word[i] = letter(field, support, multipliers, coefficients, i);
+    for (i, place) in word.iter_mut().enumerate() {
+        *place = letter(field, support, multipliers, coefficients, i);
     }
     word
 }

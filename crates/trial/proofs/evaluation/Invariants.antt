@@ -5,6 +5,6 @@ use Rattle.trial.proofs.evaluation.Given as goal
 -- the letters before i are written
 abbrev pub invariant-loop-i : goal.invariant-loop-i
 invariant-loop-i g l = record {
-  many : length l.word ≡ g.row.N;
-  each : (k : ℕ) → k < l.i → slice_index l.word k ≡ letter_of (g.F.Field.meaning l.field) l.support l.multipliers l.coefficients k;
+  many : length l.place-items ≡ g.row.N;
+  each : (k : ℕ) → k < l.i → slice_index l.place-items k ≡ letter_of (g.F.Field.meaning l.field) l.support l.multipliers l.coefficients k;
 }
