@@ -1,6 +1,5 @@
 -- The loop of repeated squaring.
-use Rattle.std.proofs.Common.{◌≡◌, ℕ, zero, suc, ◌/◌, ◌%◌, ◌^◌, ◌<◌, ◌≢◌, cond, eqb, sym, refl, ap, ◌∙◌, arith}
-use Rattle.std.proofs.lemmas.Bool.Decides.{nat_tests}
+use Rattle.std.proofs.Common.{◌≡◌, ℕ, zero, suc, ◌/◌, ◌%◌, ◌^◌, ◌<◌, cond, eqb, sym, refl, ap, ◌∙◌, arith}
 use Rattle.field.specs.Powers.{power}
 
 -- the loop stands at r, a and e: with e in some number of bits, r times the power e of a is the power asked for
@@ -33,10 +32,3 @@ none_left times (suc k) r a = none_left times k r (times a a)
 
 pub squares_end : (times : ℕ → ℕ → ℕ) (r a e base exponent : ℕ) → e ≡ 0 → Squares times r a e base exponent → r ≡ power times 8 1 base exponent
 squares_end times r a e base exponent done s = sym (none_left times s.bits r a) ∙ ap (power times s.bits r a) (sym done) ∙ s.same
-
--- what the test of the last bit chooses
-pub odd_takes : (e x y : ℕ) → e % 2 ≡ 1 → cond (eqb (e % 2) 1) x y ≡ x
-odd_takes e x y h = grind (arith, nat_tests)
-
-pub even_keeps : (e x y : ℕ) → (e % 2 ≢ 1) → cond (eqb (e % 2) 1) x y ≡ y
-even_keeps e x y h = grind (arith, nat_tests)

@@ -1,14 +1,16 @@
 -- Products modulo the moduli of the table keep the laws of a field.
-use Rattle.std.specs.Prelude.{◌≡◌, ℕ, ◌-◌, ◌^◌, ◌<◌, ◌≤◌, ◌≢◌, refl}
+use Rattle.std.specs.Prelude.{◌≡◌, ℕ, ◌-◌, ◌^◌, ◌<◌, ◌≤◌, Bool, ◌≢◌, refl}
 use Rattle.std.proofs.Common.{sym, ap, ◌∙◌, arith}
 use Rattle.std.proofs.Math.Decide.{ℕ_discrete}
 use Rattle.std.proofs.Math.Nat.{pow-le-pow_right}
-use Rattle.field.specs.Binary.{times, carryless, remainder, modulus_of}
+use Rattle.field.specs.Binary.{binary, times, carryless, remainder, modulus_of}
 use Rattle.field.specs.Powers.{power}
 use Rattle.field.specs.Additive.{Additive, agree, bounded, additive_zero}
 use Rattle.field.specs.Degrees.{one_basis, commutes_basis, closed_basis, associates_basis, inverse_listed, modulus_some, modulus_vanishes}
 use Rattle.field.specs.Polynomials.{carryless_left, carryless_right, times_left, times_right}
-use Rattle.field.specs.PowersLemmas.{power_closed}
+use Rattle.field.specs.PowersLemmas.{power_closed, power_agrees}
+use Rattle.std.proofs.lemmas.Bool.Decides.{nat_tests}
+use Rattle.field.specs.Meaning.{product_of}
 
 -- composites of additive functions
 then_left : (m b : ℕ) (f : ℕ → ℕ) → Additive f → Additive (λ a. times m (f a) b)
@@ -74,3 +76,9 @@ module _ (m : ℕ) (low : 2 ≤ m) (high : m ≤ 8) where
       go : Dec (a ≡ 0) → ⊥
       go (yes z) = none (sym e ∙ ap (λ x. carryless 8 x b) z ∙ additive_zero (λ x. carryless 8 x b) (carryless_left 8 b))
       go (no n) = none (sym e ∙ ap (carryless 8 a) (no_zero_divisor a b h k vanishes n) ∙ additive_zero (carryless 8 a) (carryless_right 8 a))
+
+  -- the power of the total product is the power of the product of elements
+  pub inverse_answered : (all : Bool) (a r : ℕ) → a < 2 ^ m → r ≡ power (product_of (binary m all)) 8 1 a (2 ^ m - 2) → r ≡ power (times m) 8 1 a (2 ^ m - 2)
+  inverse_answered all a r h e =
+      let four : 4 ≤ 2 ^ m = four_elements in
+      e ∙ power_agrees (times m) (product_of (binary m all)) (2 ^ m) closed (λ x y p q. grind (arith, nat_tests)) 8 1 a (2 ^ m - 2) (omega arith) h

@@ -49,9 +49,9 @@ inverses_right : T (each (λ m. below (inverse_right m) (2 ^ m)) degrees)
 unfolding each below inverse_right times carryless remainder power degrees
 inverses_right = tt
 
--- the modulus is not 0, and leaves no remainder of itself
+-- the modulus is not 0, has at most 9 bits, and leaves no remainder of itself
 modulus_right : ℕ → Bool
-modulus_right m = both (nat_lt 0 (modulus_of m)) (remainder (modulus_of m) m 8 (modulus_of m) == 0)
+modulus_right m = both (nat_lt 0 (modulus_of m)) (both (nat_lt (modulus_of m) 512) (remainder (modulus_of m) m 8 (modulus_of m) == 0))
 
 moduli_right : T (each modulus_right degrees)
 unfolding each modulus_right remainder degrees
@@ -63,11 +63,17 @@ module _ (m : ℕ) (low : 2 ≤ m) (high : m ≤ 8) where
 
   pub modulus_some : 0 < modulus_of m
   unfolding modulus_right
-  modulus_some = ltb→lt 0 (modulus_of m) (both_left (nat_lt 0 (modulus_of m)) (remainder (modulus_of m) m 8 (modulus_of m) == 0) modulus_tested)
+  modulus_some = ltb→lt 0 (modulus_of m) (both_left (nat_lt 0 (modulus_of m)) (both (nat_lt (modulus_of m) 512) (remainder (modulus_of m) m 8 (modulus_of m) == 0)) modulus_tested)
+
+  modulus_rest : T (both (nat_lt (modulus_of m) 512) (remainder (modulus_of m) m 8 (modulus_of m) == 0))
+  unfolding modulus_right
+  modulus_rest = both_right (nat_lt 0 (modulus_of m)) (both (nat_lt (modulus_of m) 512) (remainder (modulus_of m) m 8 (modulus_of m) == 0)) modulus_tested
+
+  pub modulus_small : modulus_of m < 512
+  modulus_small = ltb→lt (modulus_of m) 512 (both_left (nat_lt (modulus_of m) 512) (remainder (modulus_of m) m 8 (modulus_of m) == 0) modulus_rest)
 
   pub modulus_vanishes : remainder (modulus_of m) m 8 (modulus_of m) ≡ 0
-  unfolding modulus_right
-  modulus_vanishes = eqb→eq (remainder (modulus_of m) m 8 (modulus_of m)) 0 (both_right (nat_lt 0 (modulus_of m)) (remainder (modulus_of m) m 8 (modulus_of m) == 0) modulus_tested)
+  modulus_vanishes = eqb→eq (remainder (modulus_of m) m 8 (modulus_of m)) 0 (both_right (nat_lt (modulus_of m) 512) (remainder (modulus_of m) m 8 (modulus_of m) == 0) modulus_rest)
 
   pub one_basis : (i : ℕ) → i < m → times m 1 (2 ^ i) ≡ 2 ^ i
   unfolding one_right

@@ -1,9 +1,9 @@
 -- The table of primes holds the primes of 3 to 251 and no other number, and every element but 0 has its inverse.
-use Rattle.std.specs.Prelude.{◌≡◌, ℕ, ◌-◌, ◌*◌, ◌%◌, ◌<◌, ◌≤◌, Bool, not, T, ◌⊎◌, List, [], ◌∷◌, ◌==◌, ◌≢◌, Some, None, Option, MatchOption, find, nat_le, nat_lt}
-use Rattle.std.proofs.Common.{inl, inr, arith, eqb→eq, ltb→lt, leb→le}
+use Rattle.std.specs.Prelude.{◌≡◌, ℕ, ◌-◌, ◌*◌, ◌%◌, ◌<◌, ◌≤◌, Bool, not, T, ◌⊎◌, List, [], ◌∷◌, ◌==◌, ◌≢◌, Some, None, Option, MatchOption, find, nat_le, nat_lt, slice_index}
+use Rattle.std.proofs.Common.{subst, inl, inr, arith, eqb→eq, ltb→lt, leb→le}
 use Rattle.field.specs.Modular.{Prime, times}
 use Rattle.field.specs.Powers.{power}
-use Rattle.field.specs.Tests.{both, both_left, both_right, either, either_cases, below, below_at, some_below, some_below_at, each, each_at, member, member_found, not_equal}
+use Rattle.field.specs.Tests.{both, both_left, both_right, either, either_cases, below, below_at, some_below, some_below_at, each, each_at, member, member_at, member_place, member_found, not_equal}
 
 unfoldable pub primes : List ℕ
 primes = 3 ∷ 5 ∷ 7 ∷ 11 ∷ 13 ∷ 17 ∷ 19 ∷ 23 ∷ 29 ∷ 31 ∷ 37 ∷ 41 ∷ 43 ∷ 47 ∷ 53 ∷ 59 ∷ 61 ∷ 67 ∷ 71 ∷ 73 ∷ 79 ∷ 83 ∷ 89 ∷ 97 ∷ 101 ∷ 103 ∷ 107 ∷ 109 ∷ 113 ∷ 127 ∷ 131 ∷ 137 ∷ 139 ∷ 149 ∷ 151 ∷ 157 ∷ 163 ∷ 167 ∷ 173 ∷ 179 ∷ 181 ∷ 191 ∷ 193 ∷ 197 ∷ 199 ∷ 211 ∷ 223 ∷ 227 ∷ 229 ∷ 233 ∷ 239 ∷ 241 ∷ 251 ∷ []
@@ -84,8 +84,19 @@ listed_inverse p a t h n = go (either_cases (a == 0) (a * power (times p) 8 1 a 
     go (inl zero) = absurd (n (eqb→eq a 0 zero))
     go (inr one) = eqb→eq (a * power (times p) 8 1 a (p - 2) % p) 1 one
 
+-- what the search through the table finds: at place k, or nowhere
+pub found_at : (k p : ℕ) → k < 53 → slice_index primes k ≡ p → T (member p primes)
+unfolding primes
+found_at k p h e = subst (λ q. T (member q primes)) e (member_at primes k h)
+
 pub listed_whole : (p : ℕ) → T (member p primes) → (3 ≤ p) × (p ≤ 251) × Prime p
 listed_whole p t = (listed_from p t, listed_to p t, (omega (arith, listed_from p t), listed_undivided p t))
+
+pub not_found : (p : ℕ) → ((k : ℕ) → k < 53 → slice_index primes k ≢ p) → (3 ≤ p) × (p ≤ 251) × Prime p → ⊥
+unfolding primes
+not_found p none h =
+    let place = member_place p primes (prime_listed p h.0 h.1 h.2.1) in
+    none place.0 place.1 place.2
 
 -- what a search through the table finds is the number, a prime of 3 to 251; it finds every such prime
 pub prime_found : (p : ℕ) → MatchOption (find (λ q. q == p) primes) ((3 ≤ p) × (p ≤ 251) × Prime p → ⊥) (λ q. (q ≡ p) × (3 ≤ p) × (p ≤ 251) × Prime p)

@@ -1,5 +1,5 @@
 -- Tests that the checker computes over all numbers below a bound or all entries of a table, and what they show.
-use Rattle.std.specs.Prelude.{◌≡◌, ℕ, zero, suc, ◌<◌, Bool, true, false, not, cond, T, ◌⊎◌, List, [], ◌∷◌, ◌==◌, ◌≢◌, Some, MatchOption, find}
+use Rattle.std.specs.Prelude.{◌≡◌, ℕ, zero, suc, ◌<◌, Bool, true, false, not, cond, T, ◌⊎◌, List, [], ◌∷◌, length, ◌==◌, ◌≢◌, Some, MatchOption, find, slice_index}
 use Rattle.std.proofs.Common.{sym, subst, inl, inr, not-suc-le-zero, arith, eqb→eq}
 use Rattle.std.proofs.Math.Decide.{ℕ_discrete}
 use Rattle.std.proofs.Math.Dec.{eqb_refl}
@@ -78,6 +78,22 @@ each_at f (x ∷ xs) t p m = go (each_at f xs (both_right (f x) (each f xs) t) p
     go : (T (member p xs) → T (f p)) → T (x == p) ⊎ T (member p xs) → T (f p)
     go rest (inl e) = subst (λ y. T (f y)) (eqb→eq x p e) (both_left (f x) (each f xs) t)
     go rest (inr h) = rest h
+
+-- an entry is found, and what is found is an entry
+pub member_at : (xs : List ℕ) (k : ℕ) → k < length xs → T (member (slice_index xs k) xs)
+unfolding member
+member_at [] k h = absurd (not-suc-le-zero h)
+member_at (x ∷ xs) zero h = either_left (x == x) (member x xs) (eqb_refl x)
+member_at (x ∷ xs) (suc k) h = either_right (x == slice_index xs k) (member (slice_index xs k) xs) (member_at xs k (omega arith))
+
+pub member_place : (p : ℕ) (xs : List ℕ) → T (member p xs) → (k : ℕ) × (k < length xs) × (slice_index xs k ≡ p)
+unfolding member
+member_place p [] t = absurd t
+member_place p (x ∷ xs) t = go (member_place p xs) (either_cases (x == p) (member p xs) t)
+  where
+    go : (T (member p xs) → (k : ℕ) × (k < length xs) × (slice_index xs k ≡ p)) → T (x == p) ⊎ T (member p xs) → (k : ℕ) × (k < length (x ∷ xs)) × (slice_index (x ∷ xs) k ≡ p)
+    go rest (inl e) = (0, omega arith, eqb→eq x p e)
+    go rest (inr h) = let r : (k : ℕ) × (k < length xs) × (slice_index xs k ≡ p) = rest h in (suc r.0, omega arith, r.2)
 
 -- a search for p finds p where it is an entry, and nothing where it is none
 pub member_found : (p : ℕ) (xs : List ℕ) → MatchOption (find (λ q. q == p) xs) (T (member p xs) → ⊥) (λ q. (q ≡ p) × T (member p xs))

@@ -1,5 +1,6 @@
 use Rattle.std.proofs.Common.{◌≡◌, ◌%◌, ◌^◌, ◌<◌, cond, eqb, sym, ◌∙◌, arith, rules}
-use Rattle.field.proofs.Squaring.{squares_start, squares_turn, squares_end, odd_takes, even_keeps}
+use Rattle.field.specs.PowersLemmas.{odd_takes, even_keeps}
+use Rattle.field.proofs.Squaring.{squares_start, squares_turn, squares_end}
 use Rattle.field.proofs.power.raise.Goals as goal
 use Rattle.field.proofs.power.raise.Goals.{then-rest-eq1, else-rest-eq1}
 

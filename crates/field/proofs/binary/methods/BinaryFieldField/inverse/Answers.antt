@@ -3,7 +3,7 @@ use Rattle.field.specs.Binary.{binary}
 use Rattle.field.specs.BinaryLaws as laws
 use Rattle.field.specs.Meaning.{product_of}
 use Rattle.field.specs.Powers.{power}
-use Rattle.field.specs.PowersLemmas.{inverse_answered}
+use Rattle.field.specs.PowersLemmas.{inverse_found}
 use Rattle.field.proofs.binary.methods.BinaryFieldField.inverse.Goals as goal
 
 pub returns : goal.returns
@@ -12,4 +12,4 @@ returns c =
     let a = c.args.a in
     c.inverse.ensures
     ∙ ap (λ size. cond (nat_lt 0 a && nat_lt a size) (Some (power (product_of (binary f.m f.all)) 8 1 a (size - 2))) None) c.size.ensures
-    ∙ inverse_answered (binary f.m f.all) (omega (arith, laws.four_elements f.m f.above f.below)) (laws.closed f.m f.above f.below) (λ x. refl) a
+    ∙ inverse_found (binary f.m f.all) (omega (arith, laws.four_elements f.m f.above f.below)) (laws.closed f.m f.above f.below) (λ x. refl) a

@@ -2,7 +2,7 @@ use Rattle.std.proofs.Common.{◌-◌, ◌&&◌, cond, Some, None, nat_lt, refl,
 use Rattle.field.specs.Meaning.{product_of}
 use Rattle.field.specs.Modular.{modular}
 use Rattle.field.specs.Powers.{power}
-use Rattle.field.specs.PowersLemmas.{inverse_answered}
+use Rattle.field.specs.PowersLemmas.{inverse_found}
 use Rattle.field.proofs.prime.methods.PrimeFieldField.inverse.Goals as goal
 
 pub returns : goal.returns
@@ -11,4 +11,4 @@ returns c =
     let a = c.args.a in
     c.inverse.ensures
     ∙ ap (λ p. cond (nat_lt 0 a && nat_lt a p) (Some (power (product_of (modular p)) 8 1 a (p - 2))) None) c.size.ensures
-    ∙ inverse_answered (modular f.p) (omega (arith, f.above)) (λ x y _ _. mod-lt _ (omega (arith, f.above))) (λ x. refl) a
+    ∙ inverse_found (modular f.p) (omega (arith, f.above)) (λ x y _ _. mod-lt _ (omega (arith, f.above))) (λ x. refl) a
