@@ -11,4 +11,5 @@ pub mod Monomials
 pub mod Parts
 pub mod Searching
 pub mod Steps
+pub mod Swapped
 pub mod Writing
