@@ -2,11 +2,17 @@
 ghost use Rattle.std.specs.Prelude.{◌≡◌, min};
 ghost use Rattle.bivariate.specs.Combinations.{row_length};
 
+// How many coefficients a row has.
+pub const WIDTH: usize = 256;
+
+// How many rows a polynomial has.
+pub const ROWS: usize = 8;
+
 // The coefficients of one power of y.
-pub type Row = [u16; 256];
+pub type Row = [u16; WIDTH];
 
 // The coefficients of y^0 to y^7.
-pub type Polynomial = [Row; 8];
+pub type Polynomial = [Row; ROWS];
 
 // The rows below l, and in them what has a weighted degree below the bound, where x weighs 1.
 #[derive(Clone, Copy, Debug, PartialEq, Eq)]
@@ -21,7 +27,7 @@ impl Bounds {
     pub fn rows(self) -> usize
         ensures { result ≡ min self.l 8 }
     {
-        self.l.min(8)
+        self.l.min(ROWS)
     }
 
     // How many coefficients row c has.
@@ -31,6 +37,6 @@ impl Bounds {
     {
         self.bound
             .saturating_sub(c.saturating_mul(self.weight))
-            .min(256)
+            .min(WIDTH)
     }
 }

@@ -2,7 +2,7 @@
 ghost use Rattle.std.specs.Prelude.{◌≡◌, replicate, slice_set};
 ghost use Rattle.bivariate.specs.Combinations.{plus_of, minus_of, times_of, minus_polynomial_of, times_polynomial_of, zero_of, y_power_of};
 
-use crate::bounds::{Bounds, Polynomial, Row};
+use crate::bounds::{Bounds, Polynomial, ROWS, Row, WIDTH};
 use crate::values::multiply_x_plus;
 use field::{Field, multiply_add};
 
@@ -18,7 +18,7 @@ pub(crate) fn add_multiple<F: Field>(
 )
     ensures { target.new ≡ plus_of (F.meaning field.now) factor len target.old source.now }
 {
-    for (i, coefficient) in target[..len.min(256)].iter_mut().enumerate() {
+    for (i, coefficient) in target[..len.min(WIDTH)].iter_mut().enumerate() {
         *coefficient = multiply_add(field, *coefficient, factor, source[i]);
     }
 }
@@ -76,14 +76,14 @@ pub fn multiply_polynomial<F: Field>(field: &F, q: &mut Polynomial, a: u16, boun
 fn zero_row() -> Row
     ensures { result ≡ replicate 256 0 }
 {
-    [0; 256]
+    [0; WIDTH]
 }
 
 // The polynomial 0.
 pub fn zero_polynomial() -> Polynomial
     ensures { result ≡ zero_of }
 {
-    [zero_row(); 8]
+    [zero_row(); ROWS]
 }
 
 // Makes 1 the constant term of the row.
@@ -98,7 +98,7 @@ pub fn y_power(j: usize) -> Polynomial
     ensures { result ≡ y_power_of j }
 {
     let mut q = zero_polynomial();
-    if j < 8 {
+    if j < ROWS {
         start_with_one(&mut q[j]);
     }
     q

@@ -2,7 +2,7 @@
 ghost use Rattle.std.specs.Prelude.{◌≡◌};
 ghost use Rattle.bivariate.specs.Combinations.{term_within, terms_of, discrepancy_of};
 
-use crate::bounds::{Bounds, Polynomial};
+use crate::bounds::{Bounds, Polynomial, ROWS};
 use crate::values::coefficient;
 use field::Field;
 use std::array;
@@ -30,7 +30,7 @@ fn term<F: Field>(field: &F, q: &Polynomial, bounds: Bounds, a: u16, r: usize, c
 
 // The coefficients of x^r of the rows at a + x, and 0 for the rows that are not worked on.
 #[tactic(auto, unfolding(crate::specs::Combinations::terms_of, field::specs::Made::made))]
-fn terms<F: Field>(field: &F, q: &Polynomial, bounds: Bounds, a: u16, r: usize) -> [u16; 8]
+fn terms<F: Field>(field: &F, q: &Polynomial, bounds: Bounds, a: u16, r: usize) -> [u16; ROWS]
     ensures { result ≡ terms_of (F.meaning field.now) q.now bounds.l bounds.bound bounds.weight a r }
 {
     array::from_fn(|c| term(field, q, bounds, a, r, c))

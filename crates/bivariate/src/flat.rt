@@ -2,7 +2,7 @@
 ghost use Rattle.std.specs.Prelude.{◌≡◌, ◌+◌, ◌≤◌, ◌↔◌, length, IsTrue, IsOk};
 ghost use Rattle.bivariate.specs.Flat.{cleared_of, pasted_of, rows_of, flat_of};
 
-use crate::bounds::{Bounds, Polynomial, Row};
+use crate::bounds::{Bounds, Polynomial, Row, WIDTH};
 
 // How many numbers of the workspace are written.
 pub const WRITTEN: usize = 32768;
@@ -62,6 +62,6 @@ pub fn flatten(q: &Polynomial, bounds: Bounds, workspace: &mut [u16]) -> Result<
         return Err(NoRoom);
     }
     clear(workspace, WRITTEN);
-    copy_rows(q, bounds.rows(), bounds.bound.min(256), workspace);
+    copy_rows(q, bounds.rows(), bounds.bound.min(WIDTH), workspace);
     Ok(())
 }

@@ -10,7 +10,7 @@ pub mod roots;
 pub mod shifts;
 pub mod values;
 
-pub use bounds::{Bounds, Polynomial, Row};
+pub use bounds::{Bounds, Polynomial, ROWS, Row, WIDTH};
 pub use combinations::{
     multiply_polynomial, multiply_x_minus, subtract_multiple, subtract_polynomial, y_power,
     zero_polynomial,
@@ -19,4 +19,4 @@ pub use discrepancies::{Condition, discrepancy};
 pub use flat::{NoRoom, WRITTEN, flatten};
 pub use roots::{lower, starts_with_zeros, value_at_zero, vanishes_at};
 pub use shifts::shifted;
-pub use values::expansion;
+pub use values::{ORDER, expansion};

@@ -3,7 +3,7 @@ ghost use Rattle.std.specs.Prelude.{◌≡◌, ◌<◌, min, ◌==◌, slice_ind
 ghost use Rattle.std.specs.List.{list_all};
 ghost use Rattle.bivariate.specs.Roots.{column, all_zero, lower_row, lower_of, column_value_of};
 
-use crate::bounds::{Bounds, Polynomial, Row};
+use crate::bounds::{Bounds, Polynomial, Row, WIDTH};
 use field::{Field, multiply_add};
 
 // Whether the constant terms of the rows are all 0.
@@ -27,7 +27,7 @@ fn lower_row(row: &mut Row)
     ensures { row.new ≡ lower_row row.old }
 {
     row.rotate_left(1);
-    row[255] = 0;
+    row[WIDTH - 1] = 0;
 }
 
 // Moves each row down one place.
@@ -74,7 +74,7 @@ pub fn vanishes_at<F: Field>(field: &F, q: &Polynomial, bounds: Bounds, g: u16) 
     ensures { result ≡ all_zero (column_value_of (F.meaning field.now) g bounds.l q.now) (min bounds.bound 256) }
 {
     // Not `all` over the range: what a closure over a field gave there is not found by the proof.
-    for i in 0..bounds.bound.min(256) {
+    for i in 0..bounds.bound.min(WIDTH) {
         if !column_vanishes(field, q, bounds, g, i) {
             return false;
         }

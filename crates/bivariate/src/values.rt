@@ -4,6 +4,9 @@ ghost use Rattle.bivariate.specs.Horner.{entries, nested_of, expansion_of, coeff
 
 use field::{Field, multiply_add};
 
+// How many coefficients of an expansion there are.
+pub const ORDER: usize = 8;
+
 // Multiplies the first len coefficients by x + a and adds c, where what would come after them is dropped. With the
 // coefficients of f(a + x) given, these become those of g(a + x), where g(x) = c + x·f(x).
 #[tactic(auto, using(crate::proofs::Steps::nested_none, crate::proofs::Steps::nested_more, crate::proofs::Steps::nested_all))]
@@ -32,10 +35,10 @@ pub fn expansion<F: Field, const N: usize>(
     len: usize,
     a: u16,
     order: usize,
-) -> [u16; 8]
+) -> [u16; ORDER]
     ensures { result ≡ expansion_of (F.meaning field.now) a (entries row.now) 0 (min len N) order }
 {
-    let mut h = [0; 8];
+    let mut h = [0; ORDER];
     for c in row[..len.min(N)].iter().rev() {
         multiply_x_plus(field, &mut h, order, a, *c);
     }
@@ -52,7 +55,7 @@ pub(crate) fn coefficient<F: Field, const N: usize>(
 ) -> u16
     ensures { result ≡ coefficient_of (F.meaning field.now) a (entries row.now) (min len N) r }
 {
-    if r < 8 {
+    if r < ORDER {
         expansion(field, row, len, a, r + 1)[r]
     } else {
         0

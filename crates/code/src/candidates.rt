@@ -8,7 +8,7 @@ use crate::letters::are_letters;
 use crate::plan_code::PlanCode;
 use field::Field;
 use poly::value;
-use roots::{Roots, Word};
+use roots::{Roots, WORD_LENGTH, Word};
 
 // The number of places where two words differ.
 fn distance(a: &[u16], b: &[u16]) -> usize
@@ -47,7 +47,7 @@ impl<'a, F: Field> PlanCode<'a, F> {
     fn evaluated(&self, f: &[u16]) -> Word
         ensures { result ≡ evaluated_of self.now.plan.now (F.meaning self.now.field.now) f.now }
     {
-        let mut word = [0; 64];
+        let mut word = [0; WORD_LENGTH];
         for (i, letter) in word[..self.plan.n()].iter_mut().enumerate() {
             *letter = self.letter(f, i);
         }

@@ -9,6 +9,7 @@ use arrayvec::ArrayVec;
 use bivariate::{Bounds, Polynomial, zero_polynomial};
 use field::Field;
 use interpolation::{Place, interpolant};
+use plan::MAX_N;
 use poly::quotient;
 
 impl<'a, F: Field> PlanCode<'a, F> {
@@ -25,7 +26,7 @@ impl<'a, F: Field> PlanCode<'a, F> {
 
     // The places of the word heard: each letter at its element of the support, over its multiplier.
     #[tactic(auto, using(crate::proofs::Pointing::pointed_none, crate::proofs::Pointing::pointed_room, crate::proofs::Pointing::pointed_more, crate::proofs::Pointing::pointed_all))]
-    fn places(&self, heard: &[u16]) -> ArrayVec<Place, 64>
+    fn places(&self, heard: &[u16]) -> ArrayVec<Place, MAX_N>
         requires { length heard.now ≡ self.now.plan.now.n }
         ensures { result.items ≡ places_of self.now.plan.now (F.meaning self.now.field.now) heard.now }
     {

@@ -2,7 +2,7 @@
 ghost use Rattle.std.specs.Prelude.{◌≡◌};
 ghost use Rattle.interpolation.specs.Bases.{start_row, start_of};
 
-use bivariate::Polynomial;
+use bivariate::{Polynomial, ROWS};
 use bivariate::combinations::y_power;
 use std::array;
 
@@ -13,7 +13,7 @@ pub struct BasisRow {
     pub degree: usize,
 }
 
-pub type Basis = [BasisRow; 8];
+pub type Basis = [BasisRow; ROWS];
 
 // The power y^j, with its degree where y has the weight.
 #[tactic(auto, unfolding(crate::specs::Bases::start_row))]

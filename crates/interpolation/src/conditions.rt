@@ -8,7 +8,7 @@ use crate::basis::{Basis, BasisRow};
 use crate::pivots::pivot;
 use bivariate::combinations::{multiply_polynomial, subtract_polynomial};
 use bivariate::discrepancies::discrepancy;
-use bivariate::{Bounds, Condition, Polynomial};
+use bivariate::{Bounds, Condition, Polynomial, ROWS};
 use field::Field;
 
 // The discrepancy of a row whose degree is below the bound, and 0 for other rows.
@@ -35,10 +35,10 @@ pub fn discrepancies<F: Field>(
     basis: &Basis,
     bounds: Bounds,
     condition: Condition,
-) -> [u16; 8]
+) -> [u16; ROWS]
     ensures { result ≡ discrepancies_of (F.meaning field.now) (rows_of basis.now) (degrees_of basis.now) bounds.l bounds.bound bounds.weight condition.a condition.b condition.u condition.r }
 {
-    let mut result = [0; 8];
+    let mut result = [0; ROWS];
     for (j, row) in basis[..bounds.rows()].iter().enumerate() {
         result[j] = live_discrepancy(field, row, bounds, condition);
     }
@@ -78,7 +78,7 @@ pub fn eliminate<F: Field>(
     field: &F,
     basis: &mut Basis,
     source: &Polynomial,
-    discrepancies: &[u16; 8],
+    discrepancies: &[u16; ROWS],
     factor: u16,
     bounds: Bounds,
 )
@@ -109,7 +109,7 @@ fn reduce<F: Field>(
     field: &F,
     basis: &mut Basis,
     p: usize,
-    discrepancies: &[u16; 8],
+    discrepancies: &[u16; ROWS],
     a: u16,
     bounds: Bounds,
 )

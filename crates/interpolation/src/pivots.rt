@@ -4,7 +4,7 @@ ghost use Rattle.interpolation.specs.Bases.{degrees_of};
 ghost use Rattle.interpolation.specs.Pivots.{Pivot};
 
 use crate::basis::Basis;
-use bivariate::Bounds;
+use bivariate::{Bounds, ROWS};
 
 // Whether a row is a better pivot than those so far: its degree is lower and its discrepancy is not 0.
 fn better(degree: usize, least: usize, discrepancy: u16) -> bool
@@ -15,7 +15,7 @@ fn better(degree: usize, least: usize, discrepancy: u16) -> bool
 
 // Among the rows j below l whose degree is below the bound and whose discrepancy is not 0 the one with the
 // least degree, and the first of those.
-pub fn pivot(basis: &Basis, discrepancies: &[u16; 8], bounds: Bounds) -> Option<usize>
+pub fn pivot(basis: &Basis, discrepancies: &[u16; ROWS], bounds: Bounds) -> Option<usize>
     ensures { Pivot (degrees_of basis.now) discrepancies.now bounds.l bounds.bound result }
 {
     let mut best = None;

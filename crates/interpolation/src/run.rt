@@ -8,7 +8,7 @@ use crate::basis::{Basis, start};
 use crate::conditions::step;
 use crate::pivots::pivot;
 use crate::places::Place;
-use bivariate::{Bounds, Condition, Polynomial};
+use bivariate::{Bounds, Condition, Polynomial, ROWS};
 use field::Field;
 
 // The conditions of a place at the power u of y, for the powers of x below count.
@@ -79,6 +79,6 @@ pub fn interpolant<F: Field>(field: &F, places: &[Place], bounds: Bounds) -> Opt
     ensures none { NoneBelow (F.meaning field.now) places.now bounds.l bounds.bound bounds.weight (is_some result) }
 {
     let basis = interpolate(field, places, bounds);
-    let p = pivot(&basis, &[1; 8], bounds)?;
+    let p = pivot(&basis, &[1; ROWS], bounds)?;
     Some(polynomial_at(&basis, p))
 }

@@ -4,4 +4,4 @@
 
 pub mod search;
 
-pub use search::{Roots, Word, roots};
+pub use search::{MAX_ROOTS, Roots, WORD_LENGTH, Word, roots};

@@ -10,11 +10,17 @@ use bivariate::shifts::shifted;
 use bivariate::{Bounds, Polynomial};
 use field::Field;
 
+// How many coefficients a word has.
+pub const WORD_LENGTH: usize = 64;
+
+// How many roots are answered at most.
+pub const MAX_ROOTS: usize = 7;
+
 // Coefficients of a polynomial in x, lowest first.
-pub type Word = [u16; 64];
+pub type Word = [u16; WORD_LENGTH];
 
 // The roots of an interpolation polynomial, which has fewer than eight.
-pub type Roots = ArrayVec<Word, 7>;
+pub type Roots = ArrayVec<Word, MAX_ROOTS>;
 
 // Divides the polynomial by x as long as x divides it, at most as many times as the bound says.
 #[tactic(auto, using(crate::proofs::Numbers::stripping_none, crate::proofs::Numbers::stripping_more, crate::proofs::Numbers::stripping_stop, crate::proofs::Numbers::stripping_all))]
@@ -34,7 +40,7 @@ fn with(word: &Word, place: usize, g: u16) -> Word
     ensures { result ≡ slice_set word.now place g }
 {
     let mut result = *word;
-    if place < 64 {
+    if place < WORD_LENGTH {
         result[place] = g;
     }
     result
@@ -97,7 +103,7 @@ fn start<F: Field>(field: &F, q: &Polynomial, bounds: Bounds) -> Roots
 {
     let mut divided = *q;
     let mut found = Roots::new();
-    descend(field, &mut divided, bounds, &[0; 64], 0, &mut found);
+    descend(field, &mut divided, bounds, &[0; WORD_LENGTH], 0, &mut found);
     found
 }
 

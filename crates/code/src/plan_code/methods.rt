@@ -1,4 +1,4 @@
-// How the code of a plan is made, and what it reads as letters.
+// How the code of a plan is made.
 ghost use Rattle.std.specs.Prelude.{◌≡◌, ◌≢◌, length, IfOk, IfErr};
 ghost use Rattle.code.specs.declared.refusal.CodeFault.TheVariants.{Field as OtherField};
 
