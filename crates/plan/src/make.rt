@@ -1,5 +1,5 @@
 // Making a plan: into a place of the caller's, which a refusal leaves as it was.
-ghost use Rattle.std.specs.Prelude.{◌≡◌, ◌≤◌, length, None, MatchResult};
+ghost use Rattle.std.specs.Prelude.{◌≡◌, ◌≤◌, length, None, IfOk, MatchResult};
 ghost use Rattle.std.specs.Result.{result_err};
 ghost use Rattle.fault.specs.First.{First, Judged};
 ghost use Rattle.plan.specs.Faults.{refusal_of, Fails};
@@ -52,6 +52,19 @@ impl Plan {
         }
     }
 
+    // The plan that is asked for, or which fault comes first.
+    pub fn new(
+        asked: Parameters,
+        support: &[u16],
+        multipliers: &[u16],
+    ) -> Result<Plan, PlanFault>
+        ensures judged { Judged refusal_of (Fails asked support.now multipliers.now) (result_err result) }
+        ensures made { IfOk result (λ p. Asked asked support.now multipliers.now p) }
+    {
+        judge(asked, support, multipliers)?;
+        Ok(filled(asked, support, multipliers))
+    }
+
     // Makes the plan that is asked for, or says which fault comes first.
     pub fn make(
         &mut self,
@@ -62,8 +75,7 @@ impl Plan {
         ensures judged { Judged refusal_of (Fails asked support.now multipliers.now) (result_err result) }
         ensures written { MatchResult result (λ _. Asked asked support.now multipliers.now self.new) (λ _. self.new ≡ self.old) }
     {
-        judge(asked, support, multipliers)?;
-        *self = filled(asked, support, multipliers);
+        *self = Plan::new(asked, support, multipliers)?;
         Ok(())
     }
 }
