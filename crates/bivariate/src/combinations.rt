@@ -18,6 +18,7 @@ pub(crate) fn add_multiple<F: Field>(
 )
     ensures { target.new ≡ plus_of (F.meaning field.now) factor len target.old source.now }
 {
+    // Tried with a zip of the target's part and the source: of a zip over what is written the proof learns no element.
     for (i, coefficient) in target[..len.min(WIDTH)].iter_mut().enumerate() {
         *coefficient = multiply_add(field, *coefficient, factor, source[i]);
     }
@@ -48,6 +49,7 @@ pub fn subtract_polynomial<F: Field>(
 )
     ensures { target.new ≡ minus_polynomial_of (F.meaning field.now) factor bounds.l bounds.bound bounds.weight target.old source.now }
 {
+    // As in add_multiple, a zip is not to be had.
     for (c, row) in target[..bounds.rows()].iter_mut().enumerate() {
         subtract_multiple(field, row, &source[c], factor, bounds.row_length(c));
     }

@@ -73,7 +73,7 @@ fn column_vanishes<F: Field>(field: &F, q: &Polynomial, bounds: Bounds, g: u16, 
 pub fn vanishes_at<F: Field>(field: &F, q: &Polynomial, bounds: Bounds, g: u16) -> bool
     ensures { result ≡ all_zero (column_value_of (F.meaning field.now) g bounds.l q.now) (min bounds.bound 256) }
 {
-    // Not `all` over the range: what a closure over a field gave there is not found by the proof.
+    // A loop: tried with `all` over the range, whose closure calls the field, and the proof did not close.
     for i in 0..bounds.bound.min(WIDTH) {
         if !column_vanishes(field, q, bounds, g, i) {
             return false;

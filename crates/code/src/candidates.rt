@@ -17,6 +17,7 @@ fn distance(a: &[u16], b: &[u16]) -> usize
     a.iter().zip(b).filter(|&(x, y)| *x != *y).count()
 }
 
+// A function of its own, as the next one, so that a wrong operator is refused here and not where words are kept.
 fn is_close(distance: usize, errors: usize) -> bool
     ensures { Decides result (distance ≤ errors) }
 {

@@ -33,7 +33,7 @@ impl<'a, F: Field> PlanCode<'a, F> {
         let support = self.plan.support();
         let multipliers = self.plan.multipliers();
         let mut places = ArrayVec::new();
-        // By index, since each place is made of three lists: a zip of three is no plainer.
+        // By index: a place is made of three lists, and a zip of zips, with its elements in nested pairs, is no plainer.
         for i in 0..heard.len() {
             places.push(Place {
                 abscissa: support[i],
@@ -44,7 +44,8 @@ impl<'a, F: Field> PlanCode<'a, F> {
         places
     }
 
-    // The interpolation polynomial of the word heard. The plan's inequality sees to it that there is one.
+    // The interpolation polynomial of the word heard. That there is one follows from the plan's inequality, which is proved
+    // for the caller: here 0 would stand in for one that is missing.
     pub(crate) fn interpolation(&self, heard: &[u16]) -> Polynomial
         requires { length heard.now ≡ self.now.plan.now.n }
         ensures { (b : Bool) × Interpolant (F.meaning self.now.field.now) (places_of self.now.plan.now (F.meaning self.now.field.now) heard.now) self.now.plan.now.l (width_of self.now.plan.now) (weight_of self.now.plan.now) result b }

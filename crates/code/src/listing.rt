@@ -55,6 +55,7 @@ fn put_words(list: &mut [u16], words: &Roots, n: usize)
     requires fits { array_vec_len words.now * n ≤ length list.old }
     ensures { list.new ≡ joined (map (take n) words.now.items) ++ drop (array_vec_len words.now * n) list.old }
 {
+    // By index: a zip of chunks_exact_mut wants n above 0, and of a zip over what is written the proof learns no element.
     for (i, word) in words.as_slice().iter().enumerate() {
         let start = i * n;
         let end = start + n;
@@ -71,7 +72,8 @@ impl<'a, F: Field> PlanCode<'a, F> {
         judge_space(room, self.plan.list_length(), workspace)
     }
 
-    // Lists the words, where nothing is refused.
+    // Lists the words, where nothing is refused. The workspace's room is judged before anything is worked out, and again by
+    // `flatten`, which promises a refusal to any caller.
     fn decode(
         &self,
         heard: &[u16],

@@ -24,7 +24,7 @@ impl From<NoRoom> for CodeFault {
     ghost from_gives = { λ _ fault. fault ≡ Workspace };
 
     fn from(_: NoRoom) -> CodeFault {
-        CodeFault::Workspace
+        Self::Workspace
     }
 }
 

@@ -85,12 +85,13 @@ pub fn eliminate<F: Field>(
     ensures rows { rows_of basis.new ≡ cleared_of (F.meaning field.now) source.now factor bounds.l bounds.bound bounds.weight discrepancies.now (rows_of basis.old) }
     ensures degrees { degrees_of basis.new ≡ degrees_of basis.old }
 {
+    // By index into the discrepancies: of a zip over what is written the proof learns no element.
     for (j, row) in basis.iter_mut().enumerate() {
         clear_row(field, row, source, discrepancies[j], factor, bounds);
     }
 }
 
-// Multiplies the row by x − a, where the degree of the product is below the bound.
+// Multiplies the row by x − a. Its degree is raised in any case; the product is worked out where that is below the bound.
 #[tactic(auto, unfolding(crate::specs::Rows::raised_row_of))]
 fn raise<F: Field>(field: &F, row: &mut BasisRow, a: u16, bounds: Bounds)
     requires { row.old.degree < bounds.bound }

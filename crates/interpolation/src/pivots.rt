@@ -18,6 +18,7 @@ fn better(degree: usize, least: usize, discrepancy: u16) -> bool
 pub fn pivot(basis: &Basis, discrepancies: &[u16; ROWS], bounds: Bounds) -> Option<usize>
     ensures { Pivot (degrees_of basis.now) discrepancies.now bounds.l bounds.bound result }
 {
+    // A loop: a chain (zip, enumerate, filter, min_by_key) takes its elements apart three times and is no plainer.
     let mut best = None;
     let mut least = bounds.bound;
     for (j, row) in basis[..bounds.rows()].iter().enumerate() {

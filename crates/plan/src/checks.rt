@@ -75,7 +75,8 @@ fn first_bad_multiplier(multipliers: &[u16], size: usize) -> Option<usize>
 }
 
 // Refuses for the first fault of what is asked for, and for nothing else. The numbers and the two
-// lists stay three parameters, as `make` has them: a struct of them, made for this one call, is no plainer.
+// lists stay three parameters: the caller holds them apart, and a struct of two lent lists would be made at each call and
+// taken apart in it, which is no plainer.
 pub(crate) fn judge(
     asked: Parameters,
     support: &[u16],

@@ -23,8 +23,8 @@ pub const MAX_K: usize = 4;
 pub const MAX_L: usize = 8;
 
 // The arrays hold n elements each, and zeros after them: no layer allocates, and each list is lent as
-// one slice. The numbers of `Parameters` stand as fields of their own, since they are named so by the
-// specifications of every layer above, and the size of a field that fits is a 16-bit number.
+// one slice. The numbers of `Parameters` stand as fields of their own: a size that fits is a 16-bit number,
+// as the fields have it, where the one that is asked for is any number.
 #[derive(Clone, Copy)]
 pub struct Plan {
     size: u16,

@@ -34,6 +34,7 @@ fn sweep<F: Field>(field: &F, points: &[u16], values: &mut [u16], j: usize)
 pub fn divided_differences<F: Field>(field: &F, points: &[u16], values: &mut [u16])
     ensures { values.new ≡ coefficients_of (F.meaning field.now) points.now values.old }
 {
+    // By index: each turn changes all values after its own, and needs no element but the place.
     for j in 0..values.len() {
         sweep(field, points, values, j);
     }

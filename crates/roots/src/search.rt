@@ -35,7 +35,8 @@ fn strip(q: &mut Polynomial, bounds: Bounds)
     }
 }
 
-// The word with g at a place.
+// The word with g at a place. The coefficients chosen are a whole word beside their number: as a bounded vector they would have
+// to be filled up with zeros at each root, which is no plainer.
 fn with(word: &Word, place: usize, g: u16) -> Word
     ensures { result ≡ slice_set word.now place g }
 {
