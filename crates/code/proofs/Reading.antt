@@ -21,17 +21,7 @@ letter_stands m a h = ⊎_elim
 pub all_letters : (m : Meaning) (xs : List ℕ) → FirstBad (NoLetter m xs) (length xs) None → Letters m xs
 all_letters m xs h i k = letter_stands m (get_or xs i 0) (h i k)
 
-pub not_letters : (m : Meaning) (xs : List ℕ) (i : ℕ) → FirstBad (NoLetter m xs) (length xs) (Some i) → Decides false (Letters m xs)
-not_letters m xs i h = (λ e. absurd (both_ways false refl e), λ l. absurd (h.1 (l i h.0)))
-
-pub only_letters : (m : Meaning) (xs : List ℕ) → FirstBad (NoLetter m xs) (length xs) None → Decides true (Letters m xs)
-only_letters m xs h = (λ e. all_letters m xs h, λ l. refl)
-
 module _ (p : Plan) (m : Meaning) (long : ℕ) (xs : List ℕ) where
-  -- a plan for a field of another size
-  pub read_field : (p.size ≡ m.size → ⊥) → Judged refusal_of (ReadFails p m long xs) (Some Field)
-  read_field ne = first_field (ReadFails p m long xs) ne
-
   pub read_length : p.size ≡ m.size → (length xs ≡ long → ⊥) → Judged refusal_of (ReadFails p m long xs) (Some Length)
   read_length s ne = first_length (ReadFails p m long xs) (λ z. z s) (λ z. z) ne
 

@@ -160,22 +160,3 @@ sorted_earlier zs n long d up i j h k =
 -- the order in which a sort puts arrays of numbers
 abbrev pub Sorted : List (List ℕ) → ℕ → Type 0
 Sorted zs n = IsSortedWithin (λ x y. is_lt (slice_cmp nat_cmp x y)) zs 0 n
-
--- the sorted part at the start of an array, and what follows it
-pub sorted_part : (words part : List (List ℕ)) (count : ℕ)
-    → count ≤ length words
-    → IsPermutation (take (count - 0) words) part
-    → Sorted part (length part)
-    → IsPermutation (take count words) (take count (part ++ drop (count - 0) words))
-    × Sorted (take count (part ++ drop (count - 0) words)) count
-    × (drop count (part ++ drop (count - 0) words) ≡ drop count words)
-sorted_part words part count h s up =
-    let z : count - 0 ≡ count = omega arith in
-    let w : take (count - 0) words ≡ take count words = ap (λ k. take k words) z in
-    let k : length (take (count - 0) words) ≡ count = ap length w ∙ length-take-le count words h in
-    let l : length part ≡ count = length_permutation (take (count - 0) words) part s ∙ k in
-    let e : take count (part ++ drop (count - 0) words) ≡ part = take_at part (drop (count - 0) words) count l in (
-      subst (IsPermutation (take count words)) (sym e) (subst (λ xs. IsPermutation xs part) w s),
-      subst (λ xs. Sorted xs count) (sym e) (subst (Sorted part) l up),
-      drop_at part (drop (count - 0) words) count l ∙ ap (λ n. drop n words) z,
-    )
