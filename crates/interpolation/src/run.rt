@@ -77,6 +77,7 @@ fn polynomial_at(basis: &Basis, p: usize) -> Polynomial
 
 // The polynomial of least weighted degree that vanishes at each place with its multiplicity, among those within
 // the bounds, where there is one.
+#[tactic(auto, using(crate::proofs::LeastRow::row_found, crate::proofs::Scanning::found_inside))]
 pub fn interpolant<F: Field>(field: &F, places: &[Place], bounds: Bounds) -> Option<Polynomial>
     ensures found { Interpolant (F.meaning field.now) places.now bounds.l bounds.bound bounds.weight (unwrap_or result []) (is_some result) }
     ensures none { NoneBelow (F.meaning field.now) places.now bounds.l bounds.bound bounds.weight (is_some result) }
