@@ -1,6 +1,6 @@
 -- What is refused when a list is read as letters, and what is known where nothing is.
-use Rattle.std.proofs.Common.{◌≡◌, ℕ, true, false, List, length, get_or, Some, None, Decides, refl, ⊎_elim, arith}
-use Rattle.std.proofs.lemmas.Bool.{cases_eq, cases_lt, both_ways}
+use Rattle.std.proofs.Common.{◌≡◌, ℕ, List, length, get_or, Some, None, ⊎_elim, arith}
+use Rattle.std.proofs.lemmas.Bool.{cases_eq, cases_lt}
 use Rattle.fault.specs.First.{First, Judged}
 use Rattle.field.specs.Meaning.{Meaning, Letter as IsLetter}
 use Rattle.plan.specs.declared.Plan.{Plan}
@@ -8,7 +8,7 @@ use Rattle.plan.specs.Checks.{FirstBad}
 use Rattle.code.specs.declared.refusal.CodeFault.TheVariants.{Field, Length, Letter}
 use Rattle.code.specs.Codes.{Letters}
 use Rattle.code.specs.Faults.{refusal_of, NoLetter, ReadFails}
-use Rattle.code.proofs.Order.{first_field, first_length, first_letter, no_fault}
+use Rattle.code.proofs.Order.{first_length, first_letter, no_fault}
 
 -- whether a number is a letter can be decided
 letter_stands : (m : Meaning) (a : ℕ) → ((IsLetter m a → ⊥) → ⊥) → IsLetter m a
