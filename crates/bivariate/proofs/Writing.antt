@@ -19,10 +19,6 @@ row_length_is bound weight c product difference result f p d r =
     let e : difference ≡ bound - n = omega arith in
     r ∙ ap (λ x. min x 256) e
 
--- a result that was made with n, where n is another number
-pub made_with : {N X : Type 0} (f : N → X) (n k : N) (x : X) → x ≡ f n → n ≡ k → x ≡ f k
-made_with f n k x e q = e ∙ ap f q
-
 pub row_length_short : (bound weight c : ℕ) → min (row_length bound weight c) 256 ≡ row_length bound weight c
 unfolding row_length
 row_length_short bound weight c = let n : ℕ = bound - c * weight in let e : min (min n 256) 256 ≡ min n 256 = omega arith in e

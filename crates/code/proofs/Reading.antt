@@ -1,6 +1,6 @@
 -- What is refused when a list is read as letters, and what is known where nothing is.
-use Rattle.std.proofs.Common.{◌≡◌, ℕ, true, false, List, length, get_or, Some, None, Decides, refl, ⊎_elim, arith}
-use Rattle.std.proofs.lemmas.Bool.{cases_eq, cases_lt, both_ways}
+use Rattle.std.proofs.Common.{◌≡◌, ℕ, List, length, get_or, Some, None, ⊎_elim, arith}
+use Rattle.std.proofs.lemmas.Bool.{cases_eq, cases_lt}
 use Rattle.fault.specs.First.{First, Judged}
 use Rattle.field.specs.Meaning.{Meaning, Letter as IsLetter}
 use Rattle.plan.specs.declared.Plan.{Plan}
@@ -8,7 +8,7 @@ use Rattle.plan.specs.Checks.{FirstBad}
 use Rattle.code.specs.declared.refusal.CodeFault.TheVariants.{Field, Length, Letter}
 use Rattle.code.specs.Codes.{Letters}
 use Rattle.code.specs.Faults.{refusal_of, NoLetter, ReadFails}
-use Rattle.code.proofs.Order.{first_field, first_length, first_letter, no_fault}
+use Rattle.code.proofs.Order.{first_length, first_letter, no_fault}
 
 -- whether a number is a letter can be decided
 letter_stands : (m : Meaning) (a : ℕ) → ((IsLetter m a → ⊥) → ⊥) → IsLetter m a
@@ -21,17 +21,7 @@ letter_stands m a h = ⊎_elim
 pub all_letters : (m : Meaning) (xs : List ℕ) → FirstBad (NoLetter m xs) (length xs) None → Letters m xs
 all_letters m xs h i k = letter_stands m (get_or xs i 0) (h i k)
 
-pub not_letters : (m : Meaning) (xs : List ℕ) (i : ℕ) → FirstBad (NoLetter m xs) (length xs) (Some i) → Decides false (Letters m xs)
-not_letters m xs i h = (λ e. absurd (both_ways false refl e), λ l. absurd (h.1 (l i h.0)))
-
-pub only_letters : (m : Meaning) (xs : List ℕ) → FirstBad (NoLetter m xs) (length xs) None → Decides true (Letters m xs)
-only_letters m xs h = (λ e. all_letters m xs h, λ l. refl)
-
 module _ (p : Plan) (m : Meaning) (long : ℕ) (xs : List ℕ) where
-  -- a plan for a field of another size
-  pub read_field : (p.size ≡ m.size → ⊥) → Judged refusal_of (ReadFails p m long xs) (Some Field)
-  read_field ne = first_field (ReadFails p m long xs) ne
-
   pub read_length : p.size ≡ m.size → (length xs ≡ long → ⊥) → Judged refusal_of (ReadFails p m long xs) (Some Length)
   read_length s ne = first_length (ReadFails p m long xs) (λ z. z s) (λ z. z) ne
 

@@ -1,12 +1,11 @@
 -- Words in the order of a sort rise, where none stands twice.
-use Rattle.std.proofs.Common.{◌≡◌, ℕ, zero, suc, ◌-◌, ◌<◌, ◌≤◌, false, ◌⊎◌, List, [], ◌∷◌, ◌++◌, length, get_or, take, drop, set, Ordering, Less, Equal, Greater, sym, refl, ap, ◌∙◌, subst, inl, inr, ⊎_elim, true≢false, arith, length-set, get_or-set_other, get_or-set_same}
-use Rattle.std.proofs.lemmas.List.{length-take-le, take_at, drop_at}
+use Rattle.std.proofs.Common.{◌≡◌, ℕ, zero, suc, ◌<◌, false, ◌⊎◌, List, [], ◌∷◌, length, get_or, set, Ordering, Less, Equal, Greater, sym, refl, ap, ◌∙◌, subst, inl, inr, ⊎_elim, true≢false, arith, length-set, get_or-set_other, get_or-set_same}
 use Rattle.std.specs.Ordering.{is_lt, is_gt, ordering_then, ordering_reverse, nat_cmp}
 use Rattle.std.specs.Cmp.Lexicographic.{slice_cmp, lists_total}
 use Rattle.std.specs.List.Sorted.{IsPermutation, IsSortedWithin}
 use Rattle.std.specs.List.{swap}
 use Rattle.std.specs.Cmp.{nat_cmp_total, nat_cmp_is}
-use Rattle.std.proofs.lemmas.List.Sorted.{sorted_far, IsPermutation-keeps, length_permutation}
+use Rattle.std.proofs.lemmas.List.Sorted.{sorted_far, IsPermutation-keeps}
 use Rattle.std.proofs.lemmas.List.MinMax.{ranks_by}
 use Rattle.std.proofs.lemmas.Map.Lookups.{exact_bytes}
 use Rattle.std.proofs.lemmas.List.Edits.{length-swap, swap_is}
@@ -160,22 +159,3 @@ sorted_earlier zs n long d up i j h k =
 -- the order in which a sort puts arrays of numbers
 abbrev pub Sorted : List (List ℕ) → ℕ → Type 0
 Sorted zs n = IsSortedWithin (λ x y. is_lt (slice_cmp nat_cmp x y)) zs 0 n
-
--- the sorted part at the start of an array, and what follows it
-pub sorted_part : (words part : List (List ℕ)) (count : ℕ)
-    → count ≤ length words
-    → IsPermutation (take (count - 0) words) part
-    → Sorted part (length part)
-    → IsPermutation (take count words) (take count (part ++ drop (count - 0) words))
-    × Sorted (take count (part ++ drop (count - 0) words)) count
-    × (drop count (part ++ drop (count - 0) words) ≡ drop count words)
-sorted_part words part count h s up =
-    let z : count - 0 ≡ count = omega arith in
-    let w : take (count - 0) words ≡ take count words = ap (λ k. take k words) z in
-    let k : length (take (count - 0) words) ≡ count = ap length w ∙ length-take-le count words h in
-    let l : length part ≡ count = length_permutation (take (count - 0) words) part s ∙ k in
-    let e : take count (part ++ drop (count - 0) words) ≡ part = take_at part (drop (count - 0) words) count l in (
-      subst (IsPermutation (take count words)) (sym e) (subst (λ xs. IsPermutation xs part) w s),
-      subst (λ xs. Sorted xs count) (sym e) (subst (Sorted part) l up),
-      drop_at part (drop (count - 0) words) count l ∙ ap (λ n. drop n words) z,
-    )

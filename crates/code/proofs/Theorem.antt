@@ -10,7 +10,7 @@ use Rattle.poly.specs.Arithmetic.{quotient_of}
 use Rattle.poly.specs.Polynomials.{Elements, value_of}
 use Rattle.poly.specs.Newton.{made, coefficients_of, nested_of}
 use Rattle.poly.specs.Interpolation.{Through}
-use Rattle.poly.proofs.Making.{length_made, get_d_made}
+use Rattle.field.proofs.Making.{length_made, made_at}
 use Rattle.poly.proofs.Elementary as elementary
 use Rattle.poly.proofs.Scaling.{scaled_back, back_scaled}
 use Rattle.poly.proofs.Uniqueness.{one_through}
@@ -33,11 +33,11 @@ module _ (p : Plan) (m : Meaning) (law : Lawful (operations m)) (same : p.size �
 
   s_long : length s ≡ length c
   unfolding scaled_of
-  s_long = length_made (length c) _
+  s_long = length_made _ (length c)
 
   s_at : (i : ℕ) → i < length c → get_or s i 0 ≡ quotient_of m (get_or c i 0) (get_or β i 0)
   unfolding scaled_of
-  s_at i h = get_d_made (length c) _ i h
+  s_at i h = made_at _ (length c) i 0 h
 
   α_elements : Elements m α
   α_elements i h = let k : i < p.n = omega (arith, facts.support_length p) in omega (arith, facts.element p i k)
@@ -68,15 +68,15 @@ module _ (p : Plan) (m : Meaning) (law : Lawful (operations m)) (same : p.size �
 
   e_long : length e ≡ p.n
   unfolding extension_of
-  e_long = length_made p.n _
+  e_long = length_made _ p.n
 
   e_within : (i : ℕ) → i < length c → get_or e i 0 ≡ get_or c i 0
   unfolding extension_of letter_at
-  e_within i h = get_d_made p.n _ i (omega (arith, short)) ∙ cond-true (ltb i (length c)) _ _ (lt-ltb i (length c) h)
+  e_within i h = made_at _ p.n i 0 (omega (arith, short)) ∙ cond-true (ltb i (length c)) _ _ (lt-ltb i (length c) h)
 
   e_after : (i : ℕ) → i < p.n → length c ≤ i → get_or e i 0 ≡ product_of m (get_or β i 0) (nested_of m α (coefficients_of m α s) (get_or α i 0))
   unfolding extension_of letter_at
-  e_after i l h = get_d_made p.n _ i l ∙ cond-false (ltb i (length c)) _ _ (le-ltb i (length c) h)
+  e_after i l h = made_at _ p.n i 0 l ∙ cond-false (ltb i (length c)) _ _ (le-ltb i (length c) h)
 
   α_element : (i : ℕ) → i < p.n → get_or α i 0 < m.size
   α_element i h = omega (arith, facts.element p i h)

@@ -36,6 +36,7 @@ impl<'a, F: Field> PlanCode<'a, F> {
     }
 
     // The word that begins with the content, in the first n places, if a place with this room can take it.
+    #[tactic(auto, using(crate::proofs::Writing::content_refused, crate::proofs::Writing::content_read, crate::proofs::Writing::last_judged, crate::proofs::Writing::last_word))]
     fn word_of(&self, content: &[u16], room: usize) -> Result<[u16; MAX_N], CodeFault>
         ensures judged { Judged refusal_of (WriteFails self.now.plan.now (F.meaning self.now.field.now) content.now room) (result_err result) }
         ensures word { IfOk result (λ w. (self.now.plan.now.n ≤ room) × WordOf self.now.plan.now (F.meaning self.now.field.now) content.now (take self.now.plan.now.n w)) }

@@ -25,6 +25,7 @@ impl<'a, F: Field> PlanCode<'a, F> {
     }
 
     // What stands at place i of the extended content, given the coefficients of Newton's form.
+    #[tactic(auto, using(crate::proofs::Places::within, crate::proofs::Places::after))]
     fn letter_at(&self, content: &[u16], coefficients: &[u16], i: usize) -> u16
         requires { i < self.now.plan.now.n }
         ensures { result ≡ letter_at (F.meaning self.now.field.now) (support_of self.now.plan.now) (multipliers_of self.now.plan.now) content.now coefficients.now i }

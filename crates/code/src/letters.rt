@@ -32,6 +32,7 @@ pub(crate) fn are_letters<F: Field>(field: &F, letters: &[u16]) -> bool
 
 impl<'a, F: Field> PlanCode<'a, F> {
     // Refuses what is not the given number of letters, and nothing else.
+    #[tactic(auto, using(crate::proofs::Reading::read_all))]
     pub(crate) fn read(&self, letters: &[u16], long: usize) -> Result<(), CodeFault>
         ensures { Judged refusal_of (ReadFails self.now.plan.now (F.meaning self.now.field.now) long letters.now) (result_err result) }
     {

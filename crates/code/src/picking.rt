@@ -9,6 +9,7 @@ use plan::MAX_N;
 
 // Where word i begins in a list of some length. Whole words are counted by division, so that no
 // place past the end of the list is ever computed.
+#[tactic(auto, using(crate::proofs::Words::inside, crate::proofs::Words::outside))]
 fn start_of(long: usize, n: usize, i: usize) -> Result<usize, CodeFault>
     ensures judged { Judged refusal_of (PickFails long n i) (result_err result) }
     ensures start { IfOk result (λ start. (start ≡ i * n) × (start + n ≤ long)) }

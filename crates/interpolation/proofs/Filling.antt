@@ -99,14 +99,3 @@ module _ (m : Meaning) (source : List (List ℕ)) (factor l bound weight d : ℕ
   pub cleared_none : d ≡ 0 → q ≡ cleared_row_of m source factor l bound weight d q
   unfolding cleared_row_of
   cleared_none e = sym (cond-true (eqb d 0) q (minus_polynomial_of m (product_of m d factor) l bound weight q source) (eq-eqb d 0 e))
-
-  pub cleared_some : (k : ℕ) (xs : List (List ℕ))
-      → (d ≡ 0 → ⊥)
-      → k ≡ product_of m d factor
-      → xs ≡ minus_polynomial_of m k l bound weight q source
-      → xs ≡ cleared_row_of m source factor l bound weight d q
-  unfolding cleared_row_of
-  cleared_some k xs h e f =
-      f
-      ∙ ap (λ n. minus_polynomial_of m n l bound weight q source) e
-      ∙ sym (cond-false (eqb d 0) q (minus_polynomial_of m (product_of m d factor) l bound weight q source) (ne_eqb d 0 h))

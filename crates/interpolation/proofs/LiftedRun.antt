@@ -26,15 +26,21 @@ led_as : (m : Meaning) (law : Lawful (operations m)) (l bound weight : ℕ) (cs 
     → Led m law l bound weight ds rows degrees
 led_as m law l bound weight cs ds rows degrees e h = subst (λ x. Led m law l bound weight x rows degrees) e h
 
+-- the column at u is met up to the power r of x
+unfoldable pub InColumn : Meaning → ℕ → ℕ → ℕ → ℕ → ℕ → ℕ → ℕ → List (List (List ℕ)) → List ℕ → List (List (List ℕ)) → List ℕ → Type 0
+InColumn m a b u r l bound weight rows degrees rows' degrees' = ColumnMet m a b u r l bound weight rows degrees rows' degrees'
+
 pub column_none : (m : Meaning) (a b u l bound weight : ℕ) (rows : List (List (List ℕ))) (degrees : List ℕ)
-    → ColumnMet m a b u 0 l bound weight rows degrees rows degrees
+    → InColumn m a b u 0 l bound weight rows degrees rows degrees
+unfolding InColumn
 column_none m a b u l bound weight rows degrees law ps k suited fits led = led
 
 -- one power of x more
 pub column_more : (m : Meaning) (a b u r l bound weight : ℕ) (rows rows' rows'' : List (List (List ℕ))) (degrees degrees' degrees'' : List ℕ)
-    → ColumnMet m a b u r l bound weight rows degrees rows' degrees'
+    → InColumn m a b u r l bound weight rows degrees rows' degrees'
     → Stepped m a b u r l bound weight rows' degrees' rows'' degrees''
-    → ColumnMet m a b u (r + 1) l bound weight rows degrees rows'' degrees''
+    → InColumn m a b u (r + 1) l bound weight rows degrees rows'' degrees''
+unfolding InColumn
 column_more m a b u r l bound weight rows rows' rows'' degrees degrees' degrees'' met stepped law ps k suited fits led =
     let h : Led m law l bound weight (stage ps α β k u r) rows' degrees' = met law ps k suited (omega arith) led in
     let step : Step (elements o law) bound l (condition α β u r) (state_of o law rows' degrees') (state_of o law rows'' degrees'')
@@ -78,18 +84,34 @@ column_more m a b u r l bound weight rows rows' rows'' degrees degrees' degrees'
           short = suited.short;
         }
 
+pub column_all : (m : Meaning) (a b u r count l bound weight : ℕ) (rows rows' : List (List (List ℕ))) (degrees degrees' : List ℕ)
+    → InColumn m a b u r l bound weight rows degrees rows' degrees'
+    → count ≤ r
+    → r ≤ count
+    → ColumnMet m a b u count l bound weight rows degrees rows' degrees'
+unfolding InColumn
+column_all m a b u r count l bound weight rows rows' degrees degrees' met h k =
+    let e : r ≡ count = omega arith in
+    subst (λ n. ColumnMet m a b u n l bound weight rows degrees rows' degrees') e met
+
+-- the place is met up to the power u of y
+unfoldable pub InPlace : Meaning → Place → ℕ → ℕ → ℕ → ℕ → List (List (List ℕ)) → List ℕ → List (List (List ℕ)) → List ℕ → Type 0
+InPlace m p u l bound weight rows degrees rows' degrees' = ColumnsMet m p u l bound weight rows degrees rows' degrees'
+
 pub columns_none : (m : Meaning) (p : Place) (l bound weight : ℕ) (rows : List (List (List ℕ))) (degrees : List ℕ)
-    → ColumnsMet m p 0 l bound weight rows degrees rows degrees
+    → InPlace m p 0 l bound weight rows degrees rows degrees
+unfolding InPlace
 columns_none m p l bound weight rows degrees law ps suited fits led =
     led_as m law l bound weight _ _ rows degrees (sym (stage_first ps (into (operations m) law p.abscissa) (into (operations m) law p.ordinate) p.multiplicity)) led
 
 -- one power of y more
 pub columns_more : (m : Meaning) (p : Place) (u count l bound weight : ℕ) (rows rows' rows'' : List (List (List ℕ))) (degrees degrees' degrees'' : List ℕ)
     → u < p.multiplicity
-    → ColumnsMet m p u l bound weight rows degrees rows' degrees'
+    → InPlace m p u l bound weight rows degrees rows' degrees'
     → count ≡ p.multiplicity - u
     → ColumnMet m p.abscissa p.ordinate u count l bound weight rows' degrees' rows'' degrees''
-    → ColumnsMet m p (u + 1) l bound weight rows degrees rows'' degrees''
+    → InPlace m p (u + 1) l bound weight rows degrees rows'' degrees''
+unfolding InPlace
 columns_more m p u count l bound weight rows rows' rows'' degrees degrees' degrees'' under met is column law ps suited fits led =
     let α = into (operations m) law p.abscissa in
     let β = into (operations m) law p.ordinate in
@@ -109,10 +131,13 @@ columns_more m p u count l bound weight rows rows' rows'' degrees degrees' degre
     (column law ps k suited (omega arith) (met law ps suited (omega arith) led))
 
 pub columns_all : (m : Meaning) (p : Place) (u l bound weight : ℕ) (rows rows' : List (List (List ℕ))) (degrees degrees' : List ℕ)
-    → u ≡ p.multiplicity
-    → ColumnsMet m p u l bound weight rows degrees rows' degrees'
+    → InPlace m p u l bound weight rows degrees rows' degrees'
+    → p.multiplicity ≤ u
+    → u ≤ p.multiplicity
     → PlaceMet m p l bound weight rows degrees rows' degrees'
-columns_all m p u l bound weight rows rows' degrees degrees' e met law ps suited led =
+unfolding InPlace
+columns_all m p u l bound weight rows rows' degrees degrees' met h k law ps suited led =
+    let e : u ≡ p.multiplicity = omega arith in
     let α = into (operations m) law p.abscissa in
     let β = into (operations m) law p.ordinate in
     led_as
@@ -174,7 +199,7 @@ module _ (m : Meaning) (law : Lawful (operations m)) (l bound weight : ℕ) (few
       }
 
 -- the rows are led through the conditions of the first i places
-abbrev pub Reached : Meaning → List Place → ℕ → ℕ → ℕ → ℕ → List (List (List ℕ)) → List ℕ → Type 0
+unfoldable pub Reached : Meaning → List Place → ℕ → ℕ → ℕ → ℕ → List (List (List ℕ)) → List ℕ → Type 0
 Reached m places i l bound weight rows degrees =
     (law : Lawful (operations m))
     → l ≤ 8
@@ -187,6 +212,7 @@ pub reached_none : (m : Meaning) (places : List Place) (l bound weight : ℕ) (r
     → rows ≡ start_rows
     → degrees ≡ start_degrees weight
     → Reached m places 0 l bound weight rows degrees
+unfolding Reached
 reached_none m places l bound weight rows degrees er ed law few short light suited =
     subst₂ (λ x y. Led m law l bound weight [] x y) (sym er) (sym ed) (start_led m law l bound weight few light)
 
@@ -205,6 +231,7 @@ pub reached_more : (m : Meaning) (places : List Place) (i l bound weight : ℕ) 
     → Reached m places i l bound weight rows degrees
     → PlaceMet m (get_or places i d) l bound weight rows degrees rows' degrees'
     → Reached m places (i + 1) l bound weight rows' degrees'
+unfolding Reached
 reached_more m places i l bound weight d rows rows' degrees degrees' h reached met law few short light suited =
     led_as
     m
@@ -224,6 +251,7 @@ pub reached_all : (m : Meaning) (places : List Place) (i l bound weight : ℕ) (
     → length places ≤ i
     → Reached m places i l bound weight rows degrees
     → Interpolated m places l bound weight rows degrees
+unfolding Reached
 reached_all m places i l bound weight rows degrees h reached law few short light suited =
     led_as
     m

@@ -133,3 +133,10 @@ module _ (degrees discrepancies : List ℕ) (l bound : ℕ) where
               let k : least < get_or degrees j 0 = s.first p e j h f in
               let d : get_or degrees p 0 ≡ least = s.degree p e in
               absurd (omega arith)
+
+-- the row found is one of the eight
+pub found_inside : (degrees discrepancies : List ℕ) (l bound : ℕ) (answer : Option ℕ) (p : ℕ)
+    → Pivot degrees discrepancies l bound answer
+    → answer ≡ Some p
+    → p < 8
+found_inside degrees discrepancies l bound answer p pivot is = (pivot.fails p is).1

@@ -128,6 +128,7 @@ fn reduce<F: Field>(
 }
 
 // One step of the method: the condition that in q(a + x, b + y) the coefficient of x^r y^u be 0.
+#[tactic(auto, using(crate::proofs::LiftedStep::step_some, crate::proofs::LiftedStep::step_none, crate::proofs::BasisLists::length_degrees, crate::proofs::Scanning::found_inside))]
 pub fn step<F: Field>(field: &F, basis: &mut Basis, bounds: Bounds, condition: Condition)
     ensures { Stepped (F.meaning field.now) condition.a condition.b condition.u condition.r bounds.l bounds.bound bounds.weight (rows_of basis.old) (degrees_of basis.old) (rows_of basis.new) (degrees_of basis.new) }
 {

@@ -12,6 +12,7 @@ use bivariate::{Bounds, Condition, Polynomial, ROWS};
 use field::Field;
 
 // The conditions of a place at the power u of y, for the powers of x below count.
+#[tactic(auto, using(crate::proofs::LiftedRun::column_none, crate::proofs::LiftedRun::column_more))]
 fn meet_column<F: Field>(
     field: &F,
     basis: &mut Basis,
@@ -42,6 +43,7 @@ fn powers_of_x(multiplicity: usize, u: usize) -> usize
 }
 
 // The conditions of one place: those of x^r y^u with u + r below the multiplicity.
+#[tactic(auto, using(crate::proofs::LiftedRun::columns_none, crate::proofs::LiftedRun::columns_more))]
 fn meet_place<F: Field>(field: &F, basis: &mut Basis, bounds: Bounds, place: Place)
     ensures { PlaceMet (F.meaning field.now) place bounds.l bounds.bound bounds.weight (rows_of basis.old) (degrees_of basis.old) (rows_of basis.new) (degrees_of basis.new) }
 {
@@ -53,6 +55,7 @@ fn meet_place<F: Field>(field: &F, basis: &mut Basis, bounds: Bounds, place: Pla
 
 // The powers of y led through the conditions of the places. After that each row below l whose degree is
 // below the bound vanishes at each place with its multiplicity.
+#[tactic(auto, using(crate::proofs::LiftedRun::reached_none, crate::proofs::BasisLists::start_rows_are, crate::proofs::BasisLists::start_degrees_are))]
 pub fn interpolate<F: Field>(field: &F, places: &[Place], bounds: Bounds) -> Basis
     ensures { Interpolated (F.meaning field.now) places.now bounds.l bounds.bound bounds.weight (rows_of result) (degrees_of result) }
 {
@@ -74,6 +77,7 @@ fn polynomial_at(basis: &Basis, p: usize) -> Polynomial
 
 // The polynomial of least weighted degree that vanishes at each place with its multiplicity, among those within
 // the bounds, where there is one.
+#[tactic(auto, using(crate::proofs::LeastRow::row_found, crate::proofs::Scanning::found_inside))]
 pub fn interpolant<F: Field>(field: &F, places: &[Place], bounds: Bounds) -> Option<Polynomial>
     ensures found { Interpolant (F.meaning field.now) places.now bounds.l bounds.bound bounds.weight (unwrap_or result []) (is_some result) }
     ensures none { NoneBelow (F.meaning field.now) places.now bounds.l bounds.bound bounds.weight (is_some result) }

@@ -1,4 +1,3 @@
-pub mod Making
 pub mod Elementary
 pub mod NewtonForm
 pub mod Uniqueness

@@ -5,7 +5,7 @@ use Rattle.std.proofs.lemmas.Bool.{cases_eq, cond-true, cond-false, lt-ltb, le-l
 use Rattle.field.specs.Meaning.{Meaning, sum_of, product_of}
 use Rattle.poly.specs.Arithmetic.{difference_of, quotient_of, slope_of, nest_of}
 use Rattle.poly.specs.Newton.{made, divided_at, swept_at, sweep_of, reduced, coefficients_of, nested_from, nested_of}
-use Rattle.poly.proofs.Making.{Upto, upto_start, upto_more, upto_all, length_made, get_d_made, is_made, made_same}
+use Rattle.field.proofs.Making.{Upto, upto_from, upto_write, upto_all, length_made, made_at, made_is, made_same}
 
 module _ (m : Meaning) (α : List ℕ) where
   -- up to place j nothing is divided
@@ -22,39 +22,40 @@ module _ (m : Meaning) (α : List ℕ) where
   unfolding swept_at divided_at
   swept_same d e j i p q = ap₂ (λ x y. cond (ltb j i) (quotient_of m (difference_of m x y) (difference_of m (get_or α i 0) (get_or α j 0))) x) p q
 
-  pub sweep_start : (was : List ℕ) (j : ℕ) → Upto (swept_at m α (λ i. get_or was i 0) j) was (j + 1) was
-  sweep_start was j = upto_start _ was (j + 1) (λ k h. sym (swept_kept (λ i. get_or was i 0) j k (omega arith)))
+  pub sweep_start : (was : List ℕ) (j : ℕ) → Upto 0 (swept_at m α (λ i. get_or was i 0) j) was (j + 1) was
+  sweep_start was j = upto_from 0 _ was (j + 1) (λ k h. sym (swept_kept (λ i. get_or was i 0) j k (omega arith)))
 
   pub sweep_more : (was xs : List ℕ) (j i origin point y : ℕ)
-      → Upto (swept_at m α (λ i. get_or was i 0) j) was i xs
+      → Upto 0 (swept_at m α (λ i. get_or was i 0) j) was i xs
       → i < length was
       → j < i
       → origin ≡ get_or α j 0
       → point ≡ get_or α i 0
       → y ≡ slope_of m origin (get_or was j 0) point (get_or xs i 0)
-      → Upto (swept_at m α (λ i. get_or was i 0) j) was (i + 1) (set xs i y)
+      → Upto 0 (swept_at m α (λ i. get_or was i 0) j) was (i + 1) (set xs i y)
   unfolding divided_at
   sweep_more was xs j i origin point y u h l o p q =
-      upto_more
+      upto_write
+      0
       _
       was
       i
       xs
       y
-      u
       h
+      u
       (q
       ∙ ap₂ (λ x z. slope_of m x (get_or was j 0) z (get_or xs i 0)) o p
       ∙ ap (slope_of m (get_or α j 0) (get_or was j 0) (get_or α i 0)) (u.left i (omega arith))
       ∙ sym (swept_divided (λ i. get_or was i 0) j i l))
 
-  pub sweep_all : (was xs : List ℕ) (j i : ℕ) → Upto (swept_at m α (λ i. get_or was i 0) j) was i xs → length was ≤ i → xs ≡ sweep_of m α j was
+  pub sweep_all : (was xs : List ℕ) (j i : ℕ) → Upto 0 (swept_at m α (λ i. get_or was i 0) j) was i xs → length was ≤ i → xs ≡ sweep_of m α j was
   unfolding sweep_of
-  sweep_all was xs j i u h = upto_all _ was i xs u h
+  sweep_all was xs j i u h = upto_all 0 _ was (length was) i xs refl u (λ k l n. absurd (omega arith))
 
   pub reduced_start : (β : List ℕ) → β ≡ made (length β) (reduced m α β 0)
   unfolding reduced
-  reduced_start β = is_made (length β) _ β refl (λ i h. refl)
+  reduced_start β = made_is _ β (length β) 0 refl (λ i h. refl)
 
   pub reduced_more : (β xs ys : List ℕ) (j : ℕ)
       → j < length β
@@ -65,8 +66,8 @@ module _ (m : Meaning) (α : List ℕ) where
   reduced_more β xs ys j h e s =
       s
       ∙ ap (sweep_of m α j) e
-      ∙ ap (λ n. made n (swept_at m α (λ i. get_or (made (length β) (reduced m α β j)) i 0) j)) (length_made (length β) (reduced m α β j))
-      ∙ made_same (length β) _ _ (λ i k. swept_same _ (reduced m α β j) j i (get_d_made (length β) _ i k) (get_d_made (length β) _ j h))
+      ∙ ap (λ n. made n (swept_at m α (λ i. get_or (made (length β) (reduced m α β j)) i 0) j)) (length_made (reduced m α β j) (length β))
+      ∙ made_same _ _ (length β) 0 (λ i k. swept_same _ (reduced m α β j) j i (made_at _ (length β) i 0 k) (made_at _ (length β) j 0 h))
       ∙ ap (λ x. made (length β) (reduced m α β x)) (sym (add-one j))
 
   pub reduced_all : (β xs : List ℕ) (j : ℕ)

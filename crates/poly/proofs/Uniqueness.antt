@@ -16,7 +16,7 @@ use Rattle.field.specs.Meaning.{Meaning, operations}
 use Rattle.poly.specs.Polynomials.{Elements, value_of}
 use Rattle.poly.specs.Newton.{made, divided_at, swept_at, reduced, coefficients_of, nested_from, nested_of}
 use Rattle.poly.specs.Interpolation.{Distinct, Through, OneThrough}
-use Rattle.poly.proofs.Making.{length_made, get_d_made}
+use Rattle.field.proofs.Making.{length_made, made_at}
 use Rattle.poly.proofs.Elementary as elementary
 use Rattle.poly.proofs.NewtonForm.{swept_divided, nested_same, reduced_final}
 
@@ -104,8 +104,8 @@ module _ (m : Meaning) (law : Lawful (operations m)) (α β : List ℕ) (α_elem
   coefficients : (z : ℕ) → nested_of m α (coefficients_of m α β) z ≡ nested_from m α (λ i. reduced m α β i i) z (length β) 0
   unfolding nested_of coefficients_of
   coefficients z =
-      ap (λ n. nested_from m α (λ i. get_or (made (length β) (reduced m α β (length β))) i 0) z n 0) (length_made (length β) (reduced m α β (length β)))
-      ∙ nested_same m α _ _ z (length β) 0 (λ k a b. get_d_made (length β) _ k (omega arith) ∙ reduced_final m α β (length β) k (omega arith))
+      ap (λ n. nested_from m α (λ i. get_or (made (length β) (reduced m α β (length β))) i 0) z n 0) (length_made (reduced m α β (length β)) (length β))
+      ∙ nested_same m α _ _ z (length β) 0 (λ k a b. made_at _ (length β) k 0 (omega arith) ∙ reduced_final m α β (length β) k (omega arith))
 
   -- what the form computes is Newton's value
   pub newton_is : (z : ℕ) → z < m.size → ⌈ nested_of m α (coefficients_of m α β) z ⌉ ≡ newton_value (elements o law) (length β) abscissae ordinates ⌈ z ⌉
@@ -131,15 +131,15 @@ module _ (m : Meaning) (law : Lawful (operations m)) (α β : List ℕ) (α_elem
 
   found_element : (i : ℕ) → i < length found → get_or found i 0 < m.size
   found_element i h =
-      let l : i < length β = omega (arith, length_made (length β) (λ i. (form i).0)) in
-      let e = get_d_made (length β) (λ i. (form i).0) i l in
+      let l : i < length β = omega (arith, length_made (λ i. (form i).0) (length β)) in
+      let e = made_at (λ i. (form i).0) (length β) i 0 l in
       let k = (form i).1 in
       omega arith
 
   found_is : polynomial found ≡ form
   found_is = fun_ext (λ i. ⊎_elim
-      (λ h. ap ⌈◌⌉ (get_d_made (length β) (λ i. (form i).0) i h) ∙ into_number o law (form i))
-      (λ h. ap ⌈◌⌉ (get_or_past found i 0 (omega (arith, length_made (length β) (λ i. (form i).0)))) ∙ into_zero o law ∙ sym (below_newton (elements o law) (length β) abscissae ordinates i h))
+      (λ h. ap ⌈◌⌉ (made_at (λ i. (form i).0) (length β) i 0 h) ∙ into_number o law (form i))
+      (λ h. ap ⌈◌⌉ (get_or_past found i 0 (omega (arith, length_made (λ i. (form i).0) (length β)))) ∙ into_zero o law ∙ sym (below_newton (elements o law) (length β) abscissae ordinates i h))
       (cases_lt i (length β)))
 
   everywhere : (f : List ℕ) → Elements m f → (i : ℕ) → get_or f i 0 < m.size
@@ -148,7 +148,7 @@ module _ (m : Meaning) (law : Lawful (operations m)) (α β : List ℕ) (α_elem
   found_value : (z : ℕ) → z < m.size → ⌈ value_of m found z ⌉ ≡ newton_value (elements o law) (length β) abscissae ordinates ⌈ z ⌉
   found_value z h =
       elementary.value_into m law found z (everywhere found found_element) h
-      ∙ ap₂ (λ d f. eval R d f ⌈ z ⌉) (length_made (length β) (λ i. (form i).0)) found_is
+      ∙ ap₂ (λ d f. eval R d f ⌈ z ⌉) (length_made (λ i. (form i).0) (length β)) found_is
       ∙ eval_newton (elements o law) (length β) abscissae ordinates ⌈ z ⌉
 
   computes : (z : ℕ) → z < m.size → value_of m found z ≡ nested_of m α (coefficients_of m α β) z
@@ -162,7 +162,7 @@ module _ (m : Meaning) (law : Lawful (operations m)) (α β : List ℕ) (α_elem
 
     through : Through m α β found
     through = record {
-      polynomial = (length_made (length β) (λ i. (form i).0), found_element);
+      polynomial = (length_made (λ i. (form i).0) (length β), found_element);
       values = λ i h. into_injective o law _ _ (elementary.value_element m law found (get_or α i 0)) (β-element i) (found_value (get_or α i 0) (α_element i) ∙ newton_through (elements o law) (length β) abscissae ordinates separate i h);
     }
 
@@ -173,8 +173,8 @@ module _ (m : Meaning) (law : Lawful (operations m)) (α β : List ℕ) (α_elem
         newton_unique (elements o law) (length β) abscissae ordinates (polynomial g) separate
         (λ k h. below g k (omega arith))
         (λ i h. ap (λ d. eval R d (polynomial g) (abscissae i)) (sym n) ∙ sym (elementary.value_into m law g (get_or α i 0) (everywhere g t.polynomial.1) (α_element i)) ∙ ap ⌈◌⌉ (t.values i h)) in
-        ext_get_or 0 g found (n ∙ sym (length_made (length β) (λ i. (form i).0)))
-        (λ i h. sym (number_into o law (get_or g i 0) (t.polynomial.1 i h)) ∙ ap (λ (f : Series (Elem o)). (f i).0) e ∙ sym (get_d_made (length β) (λ i. (form i).0) i (omega arith)))
+        ext_get_or 0 g found (n ∙ sym (length_made (λ i. (form i).0) (length β)))
+        (λ i h. sym (number_into o law (get_or g i 0) (t.polynomial.1 i h)) ∙ ap (λ (f : Series (Elem o)). (f i).0) e ∙ sym (made_at (λ i. (form i).0) (length β) i 0 (omega arith)))
 
 -- for distinct points and any values there is exactly one polynomial, and Newton's form computes its values
 pub one_through : (m : Meaning) → Lawful (operations m) → OneThrough m

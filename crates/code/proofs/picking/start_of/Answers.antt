@@ -1,8 +1,8 @@
 -- The first fault, and where there is none, the word's place inside the list.
-use Rattle.std.proofs.Common.{refl, inl, inr, ⊎_elim, arith}
+use Rattle.std.proofs.Common.{inl, inr, ⊎_elim, arith}
 use Rattle.code.specs.Faults.{PickFails}
-use Rattle.code.proofs.Order.{first_shape, first_room, no_fault}
-use Rattle.code.proofs.Words.{inside, outside}
+use Rattle.code.proofs.Order.{first_shape, first_room}
+use Rattle.code.proofs.Words.{outside}
 use Rattle.code.proofs.picking.start_of.Goals as goal
 
 pub returns-then-n-lt2 : goal.returns-then-n-lt2
@@ -16,14 +16,3 @@ returns-then-i-long c = record {
   judged = first_room (PickFails c.args.long c.args.n c.args.i) (λ z. z) (⊎_elim (λ h. omega arith) (λ h. omega arith)) (λ z. z) (λ i z. z) (λ z. z) (outside _ _ _ c.if-n-lt2.false c.if-i-long.true);
   start = tt;
 }
-
-pub overflow_mul-result : goal.overflow_mul-result
-overflow_mul-result c = omega (arith, inside _ _ _ c.if-n-lt2.false c.if-i-long.false)
-
-pub returns : goal.returns
-returns c =
-    let h = inside _ _ _ c.if-n-lt2.false c.if-i-long.false in
-    record {
-      judged = no_fault (PickFails c.args.long c.args.n c.args.i) (λ z. z) (⊎_elim (λ k. omega arith) (λ k. omega arith)) (λ z. z) (λ i z. z) (λ z. z) (λ k. omega (arith, h)) (λ z. z);
-      start = (refl, h);
-    }

@@ -3,7 +3,7 @@ use Rattle.std.specs.Prelude.{is_some, [], List, ℕ}
 use Rattle.std.specs.Option.{unwrap_or}
 use Rattle.interpolation.specs.Bases.{rows_of, degrees_of}
 use Rattle.interpolation.specs.Runs.{Interpolant}
-use Rattle.interpolation.proofs.LeastRow.{row_found, row_none, none_below}
+use Rattle.interpolation.proofs.LeastRow.{row_none, none_below}
 use Rattle.interpolation.proofs.run.interpolant.Goals as goal
 
 pub returns-in_err-p-clause-found : goal.returns-in_err-p-clause-found
@@ -16,10 +16,3 @@ returns-in_err-p-clause-found g c =
 pub returns-in_err-p-clause-none : goal.returns-in_err-p-clause-none
 returns-in_err-p-clause-none g c e =
     none_below (g.F.Field.meaning c.args.field.now) c.args.places.now c.args.bounds.l c.args.bounds.bound c.args.bounds.weight (rows_of c.interpolate-basis.result) (degrees_of c.interpolate-basis.result) c.pivot.result c.interpolate-basis.ensures c.pivot.ensures c.in_err-p.was refl
-
-pub polynomial_at-requires : goal.polynomial_at-requires
-polynomial_at-requires g c = (c.pivot.ensures.fails c.in_ok-p.p c.in_ok-p.was).1
-
-pub returns-clause-found : goal.returns-clause-found
-returns-clause-found g c =
-    row_found (g.F.Field.meaning c.args.field.now) c.args.places.now c.args.bounds.l c.args.bounds.bound c.args.bounds.weight (rows_of c.interpolate-basis.result) (degrees_of c.interpolate-basis.result) c.pivot.result c.interpolate-basis.ensures c.pivot.ensures c.in_ok-p.p _ c.in_ok-p.was c.polynomial_at.ensures

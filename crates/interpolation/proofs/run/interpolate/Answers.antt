@@ -1,12 +1,6 @@
-use Rattle.std.proofs.Common.{◌∙◌, ap}
 use Rattle.interpolation.specs.Bases.{rows_of, degrees_of}
-use Rattle.interpolation.proofs.BasisLists.{start_rows_are, start_degrees_are}
-use Rattle.interpolation.proofs.LiftedRun.{reached_none, reached_more, reached_all}
+use Rattle.interpolation.proofs.LiftedRun.{reached_more, reached_all}
 use Rattle.interpolation.proofs.run.interpolate.Goals as goal
-
-pub loop-place-init : goal.loop-place-init
-loop-place-init g c =
-    reached_none (g.F.Field.meaning c.args.field.now) c.args.places.now c.args.bounds.l c.args.bounds.bound c.args.bounds.weight _ _ (ap rows_of c.start-basis.ensures ∙ start_rows_are _) (ap degrees_of c.start-basis.ensures ∙ start_degrees_are _)
 
 pub loop-place-preserved : goal.loop-place-preserved
 loop-place-preserved g c =

@@ -1,6 +1,6 @@
-use Rattle.std.proofs.Common.{Some, None}
+use Rattle.std.proofs.Common.{Some}
 use Rattle.std.proofs.lemmas.Result.{err_from_is_err_and}
-use Rattle.code.proofs.Writing.{content_refused, content_read, last_judged, last_word}
+use Rattle.code.proofs.Writing.{content_refused, content_read, last_judged}
 use Rattle.code.proofs.plan_code.PlanCode.word_of.Goals as goal
 
 pub returns-in_err-read-clause-judged : goal.returns-in_err-read-clause-judged
@@ -16,8 +16,3 @@ returns-in_err-judge_last-clause-judged g c =
     let p = err_from_is_err_and c.from_residual-in_err-judge_last.result c.from_residual-in_err-judge_last.ensures.1 in
     rw (p.1, p.2) (last_judged c.args.self.now.plan.now (g.F.Field.meaning c.args.self.now.field.now) c.args.content.now c.args.room c.dimension.result c.dimension.ensures c.in_ok-read.ensures _ c.extend-extended.ensures c.is_word.result c.is_word.ensures c.n.result c.n.ensures (Some c.in_err-judge_last.field-0.0) c.in_err-judge_last.ensures)
 
-pub returns-clause-judged : goal.returns-clause-judged
-returns-clause-judged g c = last_judged c.args.self.now.plan.now (g.F.Field.meaning c.args.self.now.field.now) c.args.content.now c.args.room c.dimension.result c.dimension.ensures c.in_ok-read.ensures _ c.extend-extended.ensures c.is_word.result c.is_word.ensures c.n.result c.n.ensures None c.in_ok-judge_last.ensures
-
-pub returns-clause-word : goal.returns-clause-word
-returns-clause-word g c = last_word c.args.self.now.plan.now (g.F.Field.meaning c.args.self.now.field.now) c.args.content.now c.args.room c.dimension.result c.dimension.ensures c.in_ok-read.ensures _ c.extend-extended.ensures c.is_word.result c.is_word.ensures c.n.result c.n.ensures c.in_ok-judge_last.ensures
