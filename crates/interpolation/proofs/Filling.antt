@@ -1,7 +1,7 @@
 -- The loops that fill a list from its start on, and the choices that they write.
 use Rattle.std.proofs.Common.{◌≡◌, ℕ, ◌+◌, ◌<◌, ◌≤◌, min, cond, eqb, ltb, List, [], length, get_or, set, replicate, sym, ap, ◌∙◌, arith}
 use lib.ListN.{length-replicate, get_or-replicate}
-use Rattle.std.proofs.lemmas.Bool.{cond-true, cond-false, eq-eqb, ne_eqb}
+use Rattle.std.proofs.lemmas.Bool.{cond-true, eq-eqb}
 use Rattle.field.specs.Meaning.{Meaning, product_of}
 use Rattle.field.specs.Made.{made}
 use Rattle.bivariate.specs.Combinations.{minus_polynomial_of}
