@@ -15,6 +15,7 @@ pub mod PlacesHeard
 pub mod Pointing
 pub mod Readiness
 pub mod Reading
+pub mod RowValues
 pub mod Sorting
 pub mod Theorem
 pub mod Words
