@@ -2,8 +2,8 @@
 ghost use Rattle.std.specs.Prelude.{◌≡◌};
 ghost use Rattle.interpolation.specs.Bases.{start_row, start_of};
 
-use bivariate::{Polynomial, ROWS};
 use bivariate::combinations::y_power;
+use bivariate::{Polynomial, ROWS};
 use std::array;
 
 // A polynomial with its weighted degree.

@@ -53,11 +53,7 @@ impl Plan {
     }
 
     // The plan that is asked for, or which fault comes first.
-    pub fn new(
-        asked: Parameters,
-        support: &[u16],
-        multipliers: &[u16],
-    ) -> Result<Plan, PlanFault>
+    pub fn new(asked: Parameters, support: &[u16], multipliers: &[u16]) -> Result<Plan, PlanFault>
         ensures judged { Judged refusal_of (Fails asked support.now multipliers.now) (result_err result) }
         ensures made { IfOk result (λ p. Asked asked support.now multipliers.now p) }
     {

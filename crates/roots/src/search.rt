@@ -104,7 +104,8 @@ fn start<F: Field>(field: &F, q: &Polynomial, bounds: Bounds) -> Roots
 {
     let mut divided = *q;
     let mut found = Roots::new();
-    descend(field, &mut divided, bounds, &[0; WORD_LENGTH], 0, &mut found);
+    let none = [0; WORD_LENGTH];
+    descend(field, &mut divided, bounds, &none, 0, &mut found);
     found
 }
 

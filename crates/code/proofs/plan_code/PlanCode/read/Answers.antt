@@ -9,4 +9,3 @@ returns-then-other_length g c =
 pub returns-in-Some : goal.returns-in-Some
 returns-in-Some g c =
     read_letter c.args.self.now.plan.now (g.F.Field.meaning c.args.self.now.field.now) c.args.long c.args.letters.now c.in-Some.i c.args.self.now.same_size (not_from_Decides _ c.other_length.ensures c.if-other_length.false) c.in-Some.ensures
-
