@@ -63,7 +63,8 @@ fn letter<F: Field>(
     }
 }
 
-// The word that a polynomial gives, with zeros after it.
+// The word that a polynomial gives, with zeros after it. Letters go by number, since the support and the multipliers may be
+// shorter than the word.
 pub fn evaluation<F: Field, const N: usize>(
     field: &F,
     support: &[u16],
