@@ -4,7 +4,6 @@
 #[cfg(test)]
 mod tests {
     use code::{CodeFault, Listing, WORKSPACE, check, list, pick, write};
-    use fault::{Layer, Refusal};
     use field::{BinaryField, PrimeField};
     use plan::{Parameters, Plan};
     use std::test::Fail;
@@ -124,14 +123,14 @@ mod tests {
         Ok(())
     }
 
-    // The refusal of a listing with so much room for the list and for the work, where both are left as they were.
-    fn refusal(
+    // The fault of a listing with so much room for the list and for the work, where both are left as they were.
+    fn fault(
         plan: &Plan,
         field: &PrimeField,
         heard: &[u16],
         room: usize,
         work: usize,
-    ) -> Option<Refusal> {
+    ) -> Option<CodeFault> {
         let room = room.min(10);
         let work = work.min(WORKSPACE);
         let mut words = [9u16; 10];
@@ -144,18 +143,7 @@ mod tests {
             &mut workspace[0..work],
         );
         let kept = words == [9; 10] && workspace == [9; WORKSPACE];
-        match answer {
-            Err(fault) if kept => Some(fault.into()),
-            _ => None,
-        }
-    }
-
-    fn code_refusal(number: u8, place: usize) -> Option<Refusal> {
-        Some(Refusal {
-            number,
-            layer: Layer::Code,
-            place,
-        })
+        answer.err().filter(|_| kept)
     }
 
     // Each listing could be refused for every later reason too, but the first one is given.
@@ -166,24 +154,24 @@ mod tests {
         let seven = prime(7)?;
         let heard = [0, 0, 0, 1, 2];
         assert_eq!(rt;
-            refusal(&plan, &seven, &[0, 9], 9, 32767),
-            code_refusal(20, 0)
+            fault(&plan, &seven, &[0, 9], 9, 32767),
+            Some(CodeFault::Field)
         );
         assert_eq!(rt;
-            refusal(&plan, &five, &[0, 9], 9, 32767),
-            code_refusal(10, 0)
+            fault(&plan, &five, &[0, 9], 9, 32767),
+            Some(CodeFault::Length)
         );
         assert_eq!(rt;
-            refusal(&plan, &five, &[0, 1, 5, 1, 7], 9, 32767),
-            code_refusal(11, 2)
+            fault(&plan, &five, &[0, 1, 5, 1, 7], 9, 32767),
+            Some(CodeFault::Letter(2))
         );
         assert_eq!(rt;
-            refusal(&plan, &five, &heard, 9, 32767),
-            code_refusal(13, 0)
+            fault(&plan, &five, &heard, 9, 32767),
+            Some(CodeFault::Room)
         );
         assert_eq!(rt;
-            refusal(&plan, &five, &heard, 10, 32767),
-            code_refusal(14, 0)
+            fault(&plan, &five, &heard, 10, 32767),
+            Some(CodeFault::Workspace)
         );
         Ok(())
     }

@@ -1,3 +1,4 @@
 pub mod LinedText
 pub mod SpacedText
 pub mod WordsOut
+pub mod Refusals

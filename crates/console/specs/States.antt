@@ -4,6 +4,7 @@ use Rattle.algebra.specs.Operations.{Lawful}
 use Rattle.algebra.specs.Elements.{Elem}
 use Rattle.algebra.specs.Bivariate.{Bivariate}
 use Rattle.fault.specs.First.{Judged}
+use Rattle.fault.specs.declared.Refusal.{Refusal}
 use Rattle.field.specs.declared.refusal.FieldFault.{FieldFault}
 use Rattle.field.specs.Faults.{refusal_of}
 use Rattle.field.specs.Meaning.{Meaning, operations}
@@ -39,6 +40,11 @@ plain m = Field m.size m.letters
 -- an inverse as an answer
 abbrev pub inverted : Option ℕ → Answer
 inverted o = Inverse o
+
+-- a refusal is an answer too
+abbrev pub answer_of : Result Answer Refusal → Answer
+answer_of (Ok a) = a
+answer_of (Err refusal) = Refused refusal
 
 -- the answer that f gives of the field chosen, or an error where none is
 abbrev pub with_field : Option AnyField → (Meaning → Answer) → Result Answer Trouble

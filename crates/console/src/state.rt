@@ -2,7 +2,7 @@
 ghost use Rattle.std.specs.Prelude.{◌≡◌, Some, None};
 ghost use Rattle.std.specs.Option.{ok_or};
 ghost use Rattle.console.specs.Kinds.{meaning_in};
-ghost use Rattle.console.specs.States.{Chosen, Planned, Checked, WrittenOut, ListedOut, OverField, with_field, plain, inverted};
+ghost use Rattle.console.specs.States.{answer_of, Chosen, Planned, Checked, WrittenOut, ListedOut, OverField, with_field, plain, inverted};
 ghost use Rattle.console.specs.declared.answer.Answer.TheVariants.{Sum, Negative, Product};
 ghost use Rattle.console.specs.declared.answer.Trouble.TheVariants.{NoField};
 ghost use Rattle.field.specs.Binary.{binary as binary_meaning};
@@ -15,6 +15,7 @@ use crate::word::Word;
 use crate::words::Words;
 use crate::{Answer, AnyField, Trouble};
 use code::{WORKSPACE, check, list, write};
+use fault::Refusal;
 use field::{BinaryField, Field, PrimeField};
 use plan::{Parameters, Plan};
 
@@ -25,40 +26,41 @@ pub struct Console {
     plan: Plan,
 }
 
-// Whether the word is in the code of the plan over the field, as an answer.
-fn checked(plan: &Plan, field: &AnyField, word: &[u16]) -> Answer
-    ensures { Checked plan.now (meaning_in field.now) word.now result }
+// A refusal is an answer too.
+fn answered(outcome: Result<Answer, Refusal>) -> Answer
+    ensures { result ≡ answer_of outcome }
 {
-    match check(plan, field, word) {
-        Ok(yes) => Answer::Check(yes),
-        Err(fault) => Answer::Refused(fault.into()),
+    match outcome {
+        Ok(answer) => answer,
+        Err(refusal) => Answer::Refused(refusal),
     }
 }
 
-// The word of the code that begins with the content, as an answer.
-fn written(plan: &Plan, field: &AnyField, content: &[u16]) -> Answer
-    ensures { WrittenOut plan.now (meaning_in field.now) content.now result }
+// Whether the word is in the code of the plan over the field.
+fn checked(plan: &Plan, field: &AnyField, word: &[u16]) -> Result<Answer, Refusal>
+    ensures { Checked plan.now (meaning_in field.now) word.now (answer_of result) }
+{
+    Ok(Answer::Check(check(plan, field, word)?))
+}
+
+// The word of the code that begins with the content.
+fn written(plan: &Plan, field: &AnyField, content: &[u16]) -> Result<Answer, Refusal>
+    ensures { WrittenOut plan.now (meaning_in field.now) content.now (answer_of result) }
 {
     let mut place = [0u16; 64];
-    match write(plan, field, content, &mut place) {
-        Ok(()) => Answer::Write(Word::new(place, plan.n())),
-        Err(fault) => Answer::Refused(fault.into()),
-    }
+    write(plan, field, content, &mut place)?;
+    Ok(Answer::Write(Word::new(place, plan.n())))
 }
 
-// The words of the code near the word heard, as an answer.
-fn listed(plan: &Plan, field: &AnyField, heard: &[u16]) -> Answer
-    ensures { ListedOut plan.now (meaning_in field.now) heard.now result }
+// The words of the code near the word heard.
+fn listed(plan: &Plan, field: &AnyField, heard: &[u16]) -> Result<Answer, Refusal>
+    ensures { ListedOut plan.now (meaning_in field.now) heard.now (answer_of result) }
 {
     let mut place = [0u16; 448];
     let mut workspace = [0u16; WORKSPACE];
-    match list(plan, field, heard, &mut place, &mut workspace) {
-        Ok(listing) => {
-            let words = Words::new(place, plan.n(), listing.words, listing.tested);
-            Answer::List(words)
-        }
-        Err(fault) => Answer::Refused(fault.into()),
-    }
+    let listing = list(plan, field, heard, &mut place, &mut workspace)?;
+    let words = Words::new(place, plan.n(), listing.words, listing.tested);
+    Ok(Answer::List(words))
 }
 
 impl Console {
@@ -153,7 +155,7 @@ impl Console {
         ensures { OverField self.now.field (λ m. Checked self.now.plan m word.now) result }
     {
         let field = self.chosen()?;
-        Ok(checked(&self.plan, &field, word))
+        Ok(answered(checked(&self.plan, &field, word)))
     }
 
     // The word of the code that begins with the content.
@@ -161,7 +163,7 @@ impl Console {
         ensures { OverField self.now.field (λ m. WrittenOut self.now.plan m content.now) result }
     {
         let field = self.chosen()?;
-        Ok(written(&self.plan, &field, content))
+        Ok(answered(written(&self.plan, &field, content)))
     }
 
     // Every word of the code within the plan's errors of the word heard.
@@ -169,6 +171,6 @@ impl Console {
         ensures { OverField self.now.field (λ m. ListedOut self.now.plan m heard.now) result }
     {
         let field = self.chosen()?;
-        Ok(listed(&self.plan, &field, heard))
+        Ok(answered(listed(&self.plan, &field, heard)))
     }
 }

@@ -58,7 +58,7 @@ impl fmt::Display for Words {
     ghost output = { λ x. Some (lined (words_of x.n x.count x.list)) };
 
     fn fmt<W: fmt::Write>(&self, f: &mut fmt::Formatter<W>) -> fmt::Result {
-        // By number: chunks_exact wants n to be more than 0, which the type would have to say for this loop alone.
+        // Each word by its number: chunks_exact may not be called with an n of 0, and this type does not rule that out.
         for i in 0..self.count {
             let letters = Letters {
                 letters: self.word(i),

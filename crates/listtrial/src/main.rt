@@ -2,13 +2,15 @@
 // are made once and put in order here, so that neither the words nor their order come from what is tried.
 #![tactic(auto)]
 
+ghost use Rattle.std.specs.Prelude.{◌≤◌};
+
 use code::{WORKSPACE, list};
 use field::{BinaryField, Field, FieldFault, PrimeField};
 use plan::{Parameters, Plan};
 use std::alloc::Global;
 use std::collections::BTreeSet;
 use std::io;
-use trial::{count, digits, is_word, word_of};
+use trial::{count, digits, is_word, made, numbers, word_of};
 
 // The longest word that is tried. A shorter one is followed by zeros.
 const MOST: usize = 12;
@@ -70,31 +72,27 @@ fn is_listed<F: Field>(
 ) -> bool {
     let n = plan.n().min(MOST);
     let mut given = [MARK; ROOM];
-    match list(plan, field, &heard[..n], &mut given, workspace) {
-        Ok(listing) => {
-            listing.words.checked_mul(n) == Some(expected.len())
-                && given.starts_with(expected)
-                && given
-                    .iter()
-                    .skip(expected.len())
-                    .all(|place| *place == MARK)
-        }
-        Err(_) => false,
-    }
+    let listing = list(plan, field, &heard[..n], &mut given, workspace);
+    let rest = &given[expected.len().min(ROOM)..];
+    listing.is_ok_and(|listing| listing.words.checked_mul(n) == Some(expected.len()))
+        && given.starts_with(expected)
+        && rest.iter().all(|place| *place == MARK)
 }
 
 // Every so many words of letters, each by list and by search.
-fn trial<F: Field>(heap: Global, plan: &Plan, field: &F, step: usize) -> io::Result<Tally> {
+fn trial<F: Field>(heap: Global, plan: &Plan, field: &F, step: usize) -> io::Result<Tally>
+    requires { 1 ≤ step }
+{
     let words = code_words(heap, plan, field)?;
     let mut workspace = [0u16; WORKSPACE];
     let mut tally = Tally::default();
-    for number in (0..count(field.letters(), plan.n())).step_by(step.max(1)) {
+    for number in (0..count(field.letters(), plan.n())).step_by(step) {
         let heard = digits(number, field.letters());
         let expected = searched(heap, plan, &words, &heard)?;
         let equal = is_listed(plan, field, &heard, &expected, &mut workspace);
         tally.heard = tally.heard.saturating_add(1);
         tally.equal = tally.equal.saturating_add(u32::from(equal));
-        tally.longest = tally.longest.max(expected.len() / plan.n().max(1));
+        tally.longest = tally.longest.max(expected.len() / plan.n());
     }
     Ok(tally)
 }
@@ -111,35 +109,21 @@ fn report(rt: &HostRuntime, name: &str, asked: Parameters, tally: Tally) -> io::
     )
 }
 
-// Tries the code of the plan that is asked for over the field that was made.
+// Tries the code of the plan that is asked for over the field.
 fn try_code<F: Field + Drop>(
     rt: &HostRuntime,
     name: &str,
-    made: Result<F, FieldFault>,
+    field: Result<F, FieldFault>,
     asked: Parameters,
     support: &[u16],
     multipliers: &[u16],
     step: usize,
-) -> io::Result<()> {
-    let mut plan = Plan::starting();
-    if plan.make(asked, support, multipliers).is_err() {
-        return println!(rt; "{name}: no plan");
-    }
-    match made {
-        Ok(field) => report(rt, name, asked, trial(rt.alloc(), &plan, &field, step)?),
-        Err(_) => println!(rt; "{name}: no field"),
-    }
-}
-
-// The numbers of a plan.
-fn numbers(size: usize, n: usize, t: usize, w: usize, k: usize, l: usize) -> Parameters {
-    Parameters {
-        size,
-        n,
-        t,
-        w,
-        k,
-        l,
+) -> io::Result<()>
+    requires { 1 ≤ step }
+{
+    match made(field, asked, support, multipliers) {
+        Ok((plan, field)) => report(rt, name, asked, trial(rt.alloc(), &plan, &field, step)?),
+        Err(refusal) => println!(rt; "{name}: {refusal}"),
     }
 }
 

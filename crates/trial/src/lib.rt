@@ -5,6 +5,9 @@
 ghost use Rattle.std.specs.Prelude.{min, ◌≡◌, ℕ, ◌<◌, All, Decides, length, slice_index};
 ghost use Rattle.trial.specs.Words.{digit, digits_of, count_of, value_of, letter_of};
 
+mod case;
+
+pub use case::{made, numbers};
 use field::Field;
 
 // The digits of a number in a base, lowest first: every list of so many digits comes once as the number rises. A base below
@@ -28,7 +31,7 @@ pub fn count(base: u16, n: usize) -> u64
     ensures { result ≡ count_of base n }
 {
     let mut all = 1u64;
-    for _digit in 0..n {
+    for _ in 0..n {
         all = all.saturating_mul(u64::from(base));
     }
     all
@@ -60,7 +63,8 @@ fn letter<F: Field>(
     }
 }
 
-// The word that a polynomial gives, with zeros after it.
+// The word that a polynomial gives, with zeros after it. Letters go by number, since the support and the multipliers may be
+// shorter than the word.
 pub fn evaluation<F: Field, const N: usize>(
     field: &F,
     support: &[u16],
