@@ -4,6 +4,7 @@
 #[cfg(test)]
 mod tests {
     use code::{CodeFault, Listing, WORKSPACE, check, list, pick, write};
+    use fault::{Layer, Refusal};
     use field::{BinaryField, PrimeField};
     use plan::{Parameters, Plan};
     use std::test::Fail;
@@ -123,14 +124,14 @@ mod tests {
         Ok(())
     }
 
-    // The fault of a listing with so much room for the list and for the work, where both are left as they were.
-    fn fault(
+    // The refusal of a listing with so much room for the list and for the work, where both are left as they were.
+    fn refusal(
         plan: &Plan,
         field: &PrimeField,
         heard: &[u16],
         room: usize,
         work: usize,
-    ) -> Option<CodeFault> {
+    ) -> Option<Refusal> {
         let room = room.min(10);
         let work = work.min(WORKSPACE);
         let mut words = [9u16; 10];
@@ -143,7 +144,18 @@ mod tests {
             &mut workspace[0..work],
         );
         let kept = words == [9; 10] && workspace == [9; WORKSPACE];
-        answer.err().filter(|_| kept)
+        match answer {
+            Err(fault) if kept => Some(fault.into()),
+            _ => None,
+        }
+    }
+
+    fn code_refusal(number: u8, place: usize) -> Option<Refusal> {
+        Some(Refusal {
+            number,
+            layer: Layer::Code,
+            place,
+        })
     }
 
     // Each listing could be refused for every later reason too, but the first one is given.
@@ -154,24 +166,24 @@ mod tests {
         let seven = prime(7)?;
         let heard = [0, 0, 0, 1, 2];
         assert_eq!(rt;
-            fault(&plan, &seven, &[0, 9], 9, 32767),
-            Some(CodeFault::Field)
+            refusal(&plan, &seven, &[0, 9], 9, 32767),
+            code_refusal(20, 0)
         );
         assert_eq!(rt;
-            fault(&plan, &five, &[0, 9], 9, 32767),
-            Some(CodeFault::Length)
+            refusal(&plan, &five, &[0, 9], 9, 32767),
+            code_refusal(10, 0)
         );
         assert_eq!(rt;
-            fault(&plan, &five, &[0, 1, 5, 1, 7], 9, 32767),
-            Some(CodeFault::Letter(2))
+            refusal(&plan, &five, &[0, 1, 5, 1, 7], 9, 32767),
+            code_refusal(11, 2)
         );
         assert_eq!(rt;
-            fault(&plan, &five, &heard, 9, 32767),
-            Some(CodeFault::Room)
+            refusal(&plan, &five, &heard, 9, 32767),
+            code_refusal(13, 0)
         );
         assert_eq!(rt;
-            fault(&plan, &five, &heard, 10, 32767),
-            Some(CodeFault::Workspace)
+            refusal(&plan, &five, &heard, 10, 32767),
+            code_refusal(14, 0)
         );
         Ok(())
     }
