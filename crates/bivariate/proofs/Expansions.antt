@@ -3,7 +3,7 @@ use Rattle.std.proofs.Common.{◌≡◌, ℕ, zero, suc, ◌+◌, ◌<◌, ◌�
 use Rattle.field.specs.Meaning.{Meaning, sum_of, product_of}
 use Rattle.bivariate.specs.Horner.{entries, taylor_of, coefficient_of}
 use Rattle.bivariate.specs.Combinations.{term_of, term_within, terms_of, discrepancy_of}
-use Rattle.bivariate.proofs.Steps.{taylor_zero, taylor_suc_zero, taylor_suc_suc}
+use Rattle.bivariate.proofs.Steps.{taylor_zero, taylor_suc_zero, taylor_suc_suc, coefficient_none}
 use Rattle.field.proofs.Making.{made_at}
 use Rattle.bivariate.proofs.Parts.{pick_below, pick_same}
 
@@ -54,3 +54,7 @@ discrepancy_is m q l bound weight a b u r terms n value t e v =
     (λ k h.
     made_at (term_within m q l bound weight a r) 8 k 0 (omega arith)
     ∙ pick_below k (min l 8) (term_of m q bound weight a r k) 0 h)
+
+pub discrepancy_none : (m : Meaning) (q : List (List ℕ)) (l bound weight a b u r : ℕ) → 8 ≤ u → 0 ≡ discrepancy_of m q l bound weight a b u r
+unfolding discrepancy_of
+discrepancy_none m q l bound weight a b u r h = coefficient_none m b (term_of m q bound weight a r) (min l 8) u h

@@ -1,11 +1,11 @@
 -- The steps of the loops that write a polynomial into a workspace.
-use Rattle.std.proofs.Common.{◌≡◌, ℕ, ◌+◌, ◌-◌, ◌*◌, ◌/◌, ◌%◌, ◌<◌, ◌≤◌, min, cond, ltb, ◌⊎◌, List, [], ◌++◌, length, take, drop, replicate, get_or, sym, refl, ap, ◌∙◌, subst, ap₂, inl, inr, add-mul, mul-le-mul, arith}
+use Rattle.std.proofs.Common.{◌≡◌, ℕ, ◌+◌, ◌-◌, ◌*◌, ◌/◌, ◌%◌, ◌<◌, ◌≤◌, min, cond, ltb, ◌⊎◌, List, [], ◌++◌, length, take, drop, replicate, get_or, set, sym, refl, ap, ◌∙◌, subst, ap₂, inl, inr, add-mul, mul-le-mul, arith}
 use lib.Arith.{digits_div, digits_mod}
 use lib.ListN.{length-replicate, get_or-replicate}
 use Rattle.std.proofs.lemmas.List.{get_or_past, get_or-take, get_or-drop, get_or_append_left, get_or-append_right, length-take, length-drop, length-append}
 use Rattle.std.proofs.lemmas.Bool.{cases_lt}
 use Rattle.bivariate.specs.Flat.{cleared_of, pasted_of, rows_of, flat_of}
-use Rattle.field.proofs.Making.{Upto, upto_none, upto_all, length_made, made_at, made_past, made_is}
+use Rattle.field.proofs.Making.{Upto, upto_none, upto_write, upto_all, length_made, made_at, made_past, made_is}
 use Rattle.bivariate.proofs.Parts.{part_all, pick_below, pick_above}
 
 module _ (count : ℕ) (was : List ℕ) where
@@ -41,6 +41,35 @@ module _ (count : ℕ) (was : List ℕ) where
       })
       (λ k l n. sym (pick_above k count 0 (get_or was k 0) l))
 
+-- before i stand the coefficients of the row
+unfoldable pub Copying : List ℕ → List ℕ → ℕ → List ℕ → Type 0
+Copying row was i part = Upto 0 (λ k. get_or row k 0) was i part
+
+module _ (row was : List ℕ) where
+  pub copying_none : Copying row was 0 was
+  unfolding Copying
+  copying_none = upto_none 0 (λ k. get_or row k 0) was
+
+  pub copying_more : (i c : ℕ) (part : List ℕ) → i < length was → Copying row was i part → c ≡ get_or row i 0 → Copying row was (i + 1) (set part i c)
+  unfolding Copying
+  copying_more i c part h u e = upto_write 0 (λ k. get_or row k 0) was i part c h u e
+
+  pub copying_all : (i : ℕ) (part : List ℕ)
+      → length was ≤ length row
+      → length was ≤ i
+      → Copying row was i part
+      → part ≡ take (length was) row
+  unfolding Copying
+  copying_all i part short h u =
+      upto_all 0 (λ k. get_or row k 0) was (length was) i part refl u (λ k l j. absurd (omega arith))
+      ∙ sym (made_is
+      (λ k. get_or row k 0)
+      (take (length was) row)
+      (length was)
+      0
+      (let e : length (take (length was) row) ≡ min (length was) (length row) = length-take (length was) row in omega arith)
+      (λ k l. get_or-take (length was) row k 0 l))
+
 module _ (start width : ℕ) (row was : List ℕ) where
   abbrev pub paste_at : ℕ → ℕ
   paste_at p = cond (ltb p start) (get_or was p 0) (cond (ltb p (start + width)) (get_or row (p - start) 0) (get_or was p 0))
@@ -56,15 +85,19 @@ module _ (start width : ℕ) (row was : List ℕ) where
       pick_above p start (get_or was p 0) _ (omega arith) ∙ pick_above p (start + width) (get_or row (p - start) 0) (get_or was p 0) h
 
   -- a part overwritten by the start of the row
-  pub pasted_is : (mid : ℕ) (part : List ℕ)
+  pub pasted_is : (mid n : ℕ) (part : List ℕ)
       → start + width ≤ length was
       → width ≤ length row
       → mid ≡ width
-      → part ≡ take width row
+      → n ≡ min mid (length was - start)
+      → part ≡ take n row
       → take start was ++ (part ++ drop mid (drop start was)) ≡ pasted_of start width row was
   unfolding pasted_of
-  pasted_is mid part fits narrow at is = made_is paste_at all (length was) 0 long (λ p h. go p h (cases_lt p start) (cases_lt p (start + width)))
+  pasted_is mid n part fits narrow at few was_taken = made_is paste_at all (length was) 0 long (λ p h. go p h (cases_lt p start) (cases_lt p (start + width)))
     where
+      is : part ≡ take width row
+      is = let e : n ≡ width = omega arith in was_taken ∙ ap (λ k. take k row) e
+
       rest : List ℕ
       rest = drop mid (drop start was)
 

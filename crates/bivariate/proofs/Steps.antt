@@ -201,6 +201,45 @@ module _ (m : Meaning) (a order : ℕ) (row : List ℕ) (n : ℕ) where
       let q : n - length rest ≡ n = omega arith in
       u.1 ∙ ap₂ (λ x y. expansion_of m a (entries row) x y order) e q
 
+-- the value of what was read of a row, from the highest coefficient down
+unfoldable pub Evaluating : Meaning → ℕ → List ℕ → ℕ → List ℕ → ℕ → Type 0
+Evaluating m a row n rest v = Left 0 row n rest × (v ≡ value_of m a (entries row) (length rest) (n - length rest))
+
+module _ (m : Meaning) (a : ℕ) (row : List ℕ) (n : ℕ) where
+  pub evaluating_none : n ≤ length row → Evaluating m a row n (take n row) 0
+  unfolding Evaluating
+  evaluating_none h =
+      let e : length (take n row) ≡ n = length_first 0 row n h in
+      (left_all 0 row n h, value_none m a (entries row) (length (take n row)) n (omega arith))
+
+  -- one coefficient more, in front
+  pub evaluating_more : (rest new : List ℕ) (c v next : ℕ)
+      → Evaluating m a row n rest v
+      → rest ≡ new ++ c ∷ []
+      → next ≡ sum_of m c (product_of m a v)
+      → Evaluating m a row n new next
+  unfolding Evaluating
+  evaluating_more rest new c v next u is s =
+      let i : ℕ = length new in
+      let up : length rest ≡ suc i = left_length 0 row n rest new c is u.0 in
+      let few : length rest ≤ n = u.0.short in
+      let back : n - i ≡ suc (n - length rest) = omega arith in (
+        left_more 0 row n rest new c is u.0,
+        s
+            ∙ ap₂
+            (λ x y. sum_of m x (product_of m a y))
+            (left_read 0 row n rest new c is u.0)
+            (u.1 ∙ ap (λ x. value_of m a (entries row) x (n - length rest)) up)
+            ∙ sym (value_suc m a (entries row) i (n - length rest))
+            ∙ ap (value_of m a (entries row) i) (sym back),
+      )
+
+  pub evaluating_all : (rest : List ℕ) (v : ℕ) → Evaluating m a row n rest v → length rest ≡ 0 → v ≡ value_of m a (entries row) 0 n
+  unfolding Evaluating
+  evaluating_all rest v u e =
+      let q : n - length rest ≡ n = omega arith in
+      u.1 ∙ ap₂ (value_of m a (entries row)) e q
+
 module _ (m : Meaning) (a : ℕ) (cs : ℕ → ℕ) where
   -- the coefficient that was asked for
   pub coefficient_read : (n r : ℕ) (h : List ℕ) → r < 8 → h ≡ expansion_of m a cs 0 n (r + 1) → get_or h r 0 ≡ coefficient_of m a cs n r

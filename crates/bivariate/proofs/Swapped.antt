@@ -39,12 +39,16 @@ module _ (m : Meaning) (law : Lawful (operations m)) where
     pub taylor_swapped_suc : (i n r : ℕ) → taylor_of m a cs i (suc n) (suc r) ≡ sum_of m (product_of m (taylor_of m a cs (suc i) n (suc r)) a) (taylor_of m a cs (suc i) n r)
     taylor_swapped_suc i n r = taylor_suc_suc m a cs i n r ∙ step_swapped a (taylor_of m a cs (suc i) n r) (taylor_of m a cs (suc i) n (suc r))
 
-  pub pushed_swapped : (order a c : ℕ) (h : List ℕ) → pushed m order a c h ≡ made 8 (λ r. cond (ltb r order) (sum_of m (product_of m (get_or h r 0) a) (before c h r)) (get_or h r 0))
-  unfolding pushed nested_of
-  pushed_swapped order a c h =
+  pub nested_swapped : (size len a c : ℕ) (h : List ℕ) → nested_of size m len a c h ≡ made size (λ r. cond (ltb r len) (sum_of m (product_of m (get_or h r 0) a) (before c h r)) (get_or h r 0))
+  unfolding nested_of
+  nested_swapped size len a c h =
       made_same
-      (λ r. cond (ltb r order) (sum_of m (before c h r) (product_of m a (get_or h r 0))) (get_or h r 0))
-      (λ r. cond (ltb r order) (sum_of m (product_of m (get_or h r 0) a) (before c h r)) (get_or h r 0))
-      8
+      (λ r. cond (ltb r len) (sum_of m (before c h r) (product_of m a (get_or h r 0))) (get_or h r 0))
+      (λ r. cond (ltb r len) (sum_of m (product_of m (get_or h r 0) a) (before c h r)) (get_or h r 0))
+      size
       0
-      (λ r _. ap (λ x. cond (ltb r order) x (get_or h r 0)) (step_swapped a (before c h r) (get_or h r 0)))
+      (λ r _. ap (λ x. cond (ltb r len) x (get_or h r 0)) (step_swapped a (before c h r) (get_or h r 0)))
+
+  pub pushed_swapped : (order a c : ℕ) (h : List ℕ) → pushed m order a c h ≡ made 8 (λ r. cond (ltb r order) (sum_of m (product_of m (get_or h r 0) a) (before c h r)) (get_or h r 0))
+  unfolding pushed
+  pushed_swapped order a c h = nested_swapped 8 order a c h

@@ -1,7 +1,7 @@
 -- The steps of the loops that write rows and polynomials.
 use Rattle.std.proofs.Common.{◌≡◌, ℕ, ◌+◌, ◌-◌, ◌*◌, ◌^◌, ◌<◌, ◌≤◌, min, cond, ltb, List, [], ◌++◌, length, take, drop, get_or, set, sym, ap, ◌∙◌, arith}
 use Rattle.std.proofs.lemmas.List.{length-take}
-use Rattle.field.specs.Meaning.{Meaning, sum_of, product_of}
+use Rattle.field.specs.Meaning.{Meaning, sum_of, negative_of, product_of}
 use Rattle.bivariate.specs.Combinations.{row_length, plus_of, minus_of, times_of, changed, minus_polynomial_of, times_polynomial_of}
 use Rattle.bivariate.specs.Roots.{lower_row, lower_of, raise_row, raise_of}
 use Rattle.field.proofs.Making.{Upto, upto_none, upto_here, upto_write, upto_all}
@@ -222,3 +222,10 @@ pub raising_all : (was : List (List ℕ)) (c : ℕ) (xs : List (List ℕ))
     → xs ≡ raise_of was
 unfolding raise_of
 raising_all was c xs h k u = changing_all raise_row was c xs h k u
+
+pub minus_is : (m : Meaning) (k len negative : ℕ) (was source xs : List ℕ)
+    → negative ≡ negative_of m k
+    → xs ≡ plus_of m negative len was source
+    → xs ≡ minus_of m k len was source
+unfolding minus_of
+minus_is m k len negative was source xs e p = p ∙ ap (λ n. plus_of m n len was source) e

@@ -3,7 +3,7 @@ ghost use Rattle.std.specs.Prelude.{◌≡◌};
 ghost use Rattle.bivariate.specs.Combinations.{term_within, terms_of, discrepancy_of};
 
 use crate::bounds::{Bounds, Polynomial, ROWS};
-use crate::values::coefficient;
+use crate::values::{ORDER, coefficient};
 use field::Field;
 use std::array;
 
@@ -38,10 +38,14 @@ fn terms<F: Field>(field: &F, q: &Polynomial, bounds: Bounds, a: u16, r: usize) 
 
 // The coefficient of x^r y^u of q(a + x, b + y), where row c of q has bound − c·weight coefficients and
 // those from l on are not read; 0 where u or r is above 7.
-#[tactic(auto, using(crate::proofs::Expansions::discrepancy_is))]
+#[tactic(auto, using(crate::proofs::Expansions::discrepancy_is, crate::proofs::Expansions::discrepancy_none))]
 pub fn discrepancy<F: Field>(field: &F, q: &Polynomial, bounds: Bounds, condition: Condition) -> u16
     ensures { result ≡ discrepancy_of (F.meaning field.now) q.now bounds.l bounds.bound bounds.weight condition.a condition.b condition.u condition.r }
 {
+    // No row is expanded for a power of y that has no coefficient.
+    if condition.u >= ORDER {
+        return 0;
+    }
     let terms = terms(field, q, bounds, condition.a, condition.r);
     coefficient(field, &terms, bounds.rows(), condition.b, condition.u)
 }

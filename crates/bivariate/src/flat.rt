@@ -1,5 +1,5 @@
 // A polynomial as the start of a workspace, row after row.
-ghost use Rattle.std.specs.Prelude.{◌≡◌, ◌+◌, ◌≤◌, ◌↔◌, length, IsTrue, IsOk};
+ghost use Rattle.std.specs.Prelude.{◌≡◌, ◌+◌, ◌≤◌, ◌↔◌, length, take, IsTrue, IsOk};
 ghost use Rattle.bivariate.specs.Flat.{cleared_of, pasted_of, rows_of, flat_of};
 
 use crate::bounds::{Bounds, Polynomial, Row, WIDTH};
@@ -27,6 +27,18 @@ fn clear(workspace: &mut [u16], count: usize)
     workspace[..count].fill(0);
 }
 
+// Writes the first coefficients of the row over the part, as many as it has room for. Not by `copy_from_slice`, which
+// compares the places of the two lists: where nobody reads the workspace, a compiler then still has to write it.
+#[tactic(auto, using(crate::proofs::Flattening::copying_none, crate::proofs::Flattening::copying_more, crate::proofs::Flattening::copying_all))]
+fn fill_from(part: &mut [u16], row: &Row)
+    requires { length part.old ≤ 256 }
+    ensures { part.new ≡ take (length part.old) row.now }
+{
+    for (i, number) in part.iter_mut().enumerate() {
+        *number = row[i];
+    }
+}
+
 // Writes the first width coefficients of the row to the workspace, from start on.
 #[tactic(auto, using(crate::proofs::Flattening::pasted_is))]
 fn copy_row(row: &Row, width: usize, workspace: &mut [u16], start: usize)
@@ -35,7 +47,7 @@ fn copy_row(row: &Row, width: usize, workspace: &mut [u16], start: usize)
     ensures { workspace.new ≡ pasted_of start width row.now workspace.old }
 {
     let end = start + width;
-    workspace[start..end].copy_from_slice(&row[..width]);
+    fill_from(&mut workspace[start..end], row);
 }
 
 // Writes the first width coefficients of the first rows to the start of the workspace, row after row.

@@ -19,4 +19,4 @@ pub use discrepancies::{Condition, discrepancy};
 pub use flat::{NoRoom, WRITTEN, flatten};
 pub use roots::{lower, starts_with_zeros, value_at_zero, vanishes_at};
 pub use shifts::shifted;
-pub use values::{ORDER, expansion};
+pub use values::{ORDER, expansion, value};

@@ -1,11 +1,24 @@
-// Expansions of one row, and the products with x + a that they are made of.
+// Values and expansions of one row, and the products with x + a that expansions are made of.
 ghost use Rattle.std.specs.Prelude.{◌≡◌, min};
-ghost use Rattle.bivariate.specs.Horner.{entries, nested_of, expansion_of, coefficient_of};
+ghost use Rattle.bivariate.specs.Horner.{entries, value_of, nested_of, expansion_of, coefficient_of};
 
+use crate::bounds::{Row, WIDTH};
 use field::{Field, multiply_add};
 
 // How many coefficients of an expansion there are.
 pub const ORDER: usize = 8;
+
+// The value at a of the first len coefficients.
+#[tactic(auto, using(crate::proofs::Steps::evaluating_none, crate::proofs::Steps::evaluating_more, crate::proofs::Steps::evaluating_all))]
+pub fn value<F: Field>(field: &F, row: &Row, len: usize, a: u16) -> u16
+    ensures { result ≡ value_of (F.meaning field.now) a (entries row.now) 0 (min len 256) }
+{
+    let mut value = 0;
+    for c in row[..len.min(WIDTH)].iter().rev() {
+        value = multiply_add(field, *c, a, value);
+    }
+    value
+}
 
 // Multiplies the first len coefficients by x + a and adds c, where what would come after them is dropped. With the
 // coefficients of f(a + x) given, these become those of g(a + x), where g(x) = c + x·f(x).

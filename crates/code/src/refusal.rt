@@ -48,3 +48,12 @@ impl From<CodeFault> for Refusal {
         }
     }
 }
+
+impl CodeFault {
+    // The refusal that every layer shows, for callers that name it.
+    pub fn refusal(self) -> Refusal
+        ensures { result ≡ refusal_of self }
+    {
+        Refusal::from(self)
+    }
+}

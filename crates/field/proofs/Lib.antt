@@ -3,3 +3,4 @@ pub mod Interleaved
 pub mod Judging
 pub mod Squaring
 pub mod Making
+mod Inverses

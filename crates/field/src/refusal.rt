@@ -26,3 +26,12 @@ impl From<FieldFault> for Refusal {
         }
     }
 }
+
+impl FieldFault {
+    // The refusal that every layer shows, for callers that name it.
+    pub fn refusal(self) -> Refusal
+        ensures { result ≡ refusal_of self }
+    {
+        Refusal::from(self)
+    }
+}

@@ -7,9 +7,9 @@ use Rattle.std.proofs.Math.Seq.{map-set_same}
 use Rattle.std.proofs.lemmas.Bool.{cases_lt}
 use Rattle.field.specs.Meaning.{Meaning}
 use Rattle.field.specs.Made.{made}
-use Rattle.field.proofs.Making.{Upto, upto_none}
+use Rattle.field.proofs.Making.{Upto, upto_none, upto_write, upto_all}
 use Rattle.bivariate.proofs.Parts.{pick_below, pick_above}
-use Rattle.bivariate.specs.Combinations.{times_polynomial_of}
+use Rattle.bivariate.specs.Combinations.{times_polynomial_of, y_power_of}
 use Rattle.interpolation.specs.declared.basis.BasisRow.{BasisRow}
 use Rattle.interpolation.specs.Bases.{rows_of, degrees_of, start_row, start_of}
 use Rattle.interpolation.specs.Rows.{start_rows, start_degrees, live_discrepancy_of, discrepancies_of, inverse_or_zero, cleared_row_of, cleared_of, raised_row_of, raised_of, reduced_of}
@@ -27,6 +27,23 @@ start_rows_are weight = map-map (λ r. r.polynomial) (start_row weight) (range_w
 pub start_degrees_are : (weight : ℕ) → degrees_of (start_of weight) ≡ start_degrees weight
 unfolding degrees_of start_degrees start_of start_row made
 start_degrees_are weight = map-map (λ r. r.degree) (start_row weight) (range_with_len 0 8)
+
+-- before j stand the powers of y
+unfoldable pub Powers : List (List (List ℕ)) → ℕ → List (List (List ℕ)) → Type 0
+Powers was j rows = Upto [] y_power_of was j rows
+
+module _ (was : List (List (List ℕ))) where
+  pub powers_none : Powers was 0 was
+  unfolding Powers
+  powers_none = upto_none [] y_power_of was
+
+  pub powers_more : (j : ℕ) (rows : List (List (List ℕ))) (q : List (List ℕ)) → j < length was → Powers was j rows → q ≡ y_power_of j → Powers was (j + 1) (set rows j q)
+  unfolding Powers
+  powers_more j rows q h u e = upto_write [] y_power_of was j rows q h u e
+
+  pub powers_all : (j : ℕ) (rows : List (List (List ℕ))) → length was ≡ 8 → 8 ≤ j → Powers was j rows → rows ≡ start_rows
+  unfolding Powers start_rows
+  powers_all j rows e h u = upto_all [] y_power_of was 8 j rows e u (λ k l m. absurd (omega arith))
 
 module _ (basis : List BasisRow) where
   pub length_rows : length (rows_of basis) ≡ length basis

@@ -1,7 +1,7 @@
 -- The loops that fill a list from its start on, and the choices that they write.
 use Rattle.std.proofs.Common.{◌≡◌, ℕ, ◌+◌, ◌<◌, ◌≤◌, min, cond, eqb, ltb, List, [], length, get_or, set, replicate, sym, ap, ◌∙◌, arith}
 use lib.ListN.{length-replicate, get_or-replicate}
-use Rattle.std.proofs.lemmas.Bool.{cond-true, eq-eqb}
+use Rattle.std.proofs.lemmas.Bool.{cond-true, cond-false, eq-eqb, ne_eqb}
 use Rattle.field.specs.Meaning.{Meaning, product_of}
 use Rattle.field.specs.Made.{made}
 use Rattle.bivariate.specs.Combinations.{minus_polynomial_of}
@@ -99,3 +99,14 @@ module _ (m : Meaning) (source : List (List ℕ)) (factor l bound weight d : ℕ
   pub cleared_none : d ≡ 0 → q ≡ cleared_row_of m source factor l bound weight d q
   unfolding cleared_row_of
   cleared_none e = sym (cond-true (eqb d 0) q (minus_polynomial_of m (product_of m d factor) l bound weight q source) (eq-eqb d 0 e))
+
+  pub cleared_some : (k : ℕ) (xs : List (List ℕ))
+      → (d ≡ 0 → ⊥)
+      → k ≡ product_of m d factor
+      → xs ≡ minus_polynomial_of m k l bound weight q source
+      → xs ≡ cleared_row_of m source factor l bound weight d q
+  unfolding cleared_row_of
+  cleared_some k xs h e f =
+      f
+      ∙ ap (λ n. minus_polynomial_of m n l bound weight q source) e
+      ∙ sym (cond-false (eqb d 0) q (minus_polynomial_of m (product_of m d factor) l bound weight q source) (ne_eqb d 0 h))

@@ -2,6 +2,7 @@
 ghost use Rattle.std.specs.Prelude.{◌≡◌, ◌-◌, ◌<◌, [], is_some, slice_index_or};
 ghost use Rattle.std.specs.Option.{unwrap_or};
 ghost use Rattle.interpolation.specs.Bases.{rows_of, degrees_of};
+ghost use Rattle.interpolation.specs.Rows.{start_rows, start_degrees};
 ghost use Rattle.interpolation.specs.Runs.{ColumnMet, PlaceMet, Interpolated, Interpolant, NoneBelow};
 
 use crate::basis::{Basis, start};
@@ -53,16 +54,26 @@ fn meet_place<F: Field>(field: &F, basis: &mut Basis, bounds: Bounds, place: Pla
     }
 }
 
+// Leads the powers of y through the conditions of the places, where the basis stands.
+#[tactic(auto, using(crate::proofs::LiftedRun::reached_none))]
+fn meet_places<F: Field>(field: &F, basis: &mut Basis, bounds: Bounds, places: &[Place])
+    requires rows { rows_of basis.old ≡ start_rows }
+    requires degrees { degrees_of basis.old ≡ start_degrees bounds.weight }
+    ensures { Interpolated (F.meaning field.now) places.now bounds.l bounds.bound bounds.weight (rows_of basis.new) (degrees_of basis.new) }
+{
+    for place in places {
+        meet_place(field, basis, bounds, *place);
+    }
+}
+
 // The powers of y led through the conditions of the places. After that each row below l whose degree is
 // below the bound vanishes at each place with its multiplicity.
-#[tactic(auto, using(crate::proofs::LiftedRun::reached_none, crate::proofs::BasisLists::start_rows_are, crate::proofs::BasisLists::start_degrees_are))]
+#[tactic(auto, using(crate::proofs::BasisLists::start_rows_are, crate::proofs::BasisLists::start_degrees_are))]
 pub fn interpolate<F: Field>(field: &F, places: &[Place], bounds: Bounds) -> Basis
     ensures { Interpolated (F.meaning field.now) places.now bounds.l bounds.bound bounds.weight (rows_of result) (degrees_of result) }
 {
     let mut basis = start(bounds.weight);
-    for place in places {
-        meet_place(field, &mut basis, bounds, *place);
-    }
+    meet_places(field, &mut basis, bounds, places);
     basis
 }
 
@@ -77,12 +88,15 @@ fn polynomial_at(basis: &Basis, p: usize) -> Polynomial
 
 // The polynomial of least weighted degree that vanishes at each place with its multiplicity, among those within
 // the bounds, where there is one.
-#[tactic(auto, using(crate::proofs::LeastRow::row_found, crate::proofs::Scanning::found_inside))]
+#[tactic(auto, using(crate::proofs::LeastRow::row_found, crate::proofs::Scanning::found_inside, crate::proofs::BasisLists::start_rows_are, crate::proofs::BasisLists::start_degrees_are))]
 pub fn interpolant<F: Field>(field: &F, places: &[Place], bounds: Bounds) -> Option<Polynomial>
     ensures found { Interpolant (F.meaning field.now) places.now bounds.l bounds.bound bounds.weight (unwrap_or result []) (is_some result) }
     ensures none { NoneBelow (F.meaning field.now) places.now bounds.l bounds.bound bounds.weight (is_some result) }
 {
-    let basis = interpolate(field, places, bounds);
+    // The basis is led where it stands: a basis that `interpolate` hands out is copied twice, and of a few places that is most
+    // of the work.
+    let mut basis = start(bounds.weight);
+    meet_places(field, &mut basis, bounds, places);
     let p = pivot(&basis, &[1; ROWS], bounds)?;
     Some(polynomial_at(&basis, p))
 }

@@ -47,3 +47,12 @@ impl From<PlanFault> for Refusal {
         }
     }
 }
+
+impl PlanFault {
+    // The refusal that every layer shows, for callers that name it.
+    pub fn refusal(self) -> Refusal
+        ensures { result ≡ refusal_of self }
+    {
+        Refusal::from(self)
+    }
+}

@@ -152,6 +152,7 @@ impl Field for BinaryField {
         }
     }
 
+    #[tactic(auto, using(crate::proofs::Inverses::binary_by_power))]
     fn inverse(&self, a: u16) -> Option<u16> {
         power::inverse(self.size(), |x, y| self.product(x, y), a)
     }

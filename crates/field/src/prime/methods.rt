@@ -120,6 +120,7 @@ impl Field for PrimeField {
         }
     }
 
+    #[tactic(auto, using(crate::proofs::Inverses::prime_by_power))]
     fn inverse(&self, a: u16) -> Option<u16> {
         power::inverse(self.size(), |x, y| self.product(x, y), a)
     }

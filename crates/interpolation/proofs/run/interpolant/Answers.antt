@@ -11,8 +11,8 @@ returns-in_err-p-clause-found g c =
     subst
     (λ (r : Option (List (List ℕ))). Interpolant (g.F.Field.meaning c.args.field.now) c.args.places.now c.args.bounds.l c.args.bounds.bound c.args.bounds.weight (unwrap_or r []) (is_some r))
     (sym c.from_residual.ensures)
-    (row_none (g.F.Field.meaning c.args.field.now) c.args.places.now c.args.bounds.l c.args.bounds.bound c.args.bounds.weight (rows_of c.interpolate-basis.result) (degrees_of c.interpolate-basis.result) c.pivot.result c.interpolate-basis.ensures c.pivot.ensures [] c.in_err-p.was)
+    (row_none (g.F.Field.meaning c.args.field.now) c.args.places.now c.args.bounds.l c.args.bounds.bound c.args.bounds.weight (rows_of c.meet_places.new.basis) (degrees_of c.meet_places.new.basis) c.pivot.result c.meet_places.ensures c.pivot.ensures [] c.in_err-p.was)
 
 pub returns-in_err-p-clause-none : goal.returns-in_err-p-clause-none
 returns-in_err-p-clause-none g c e =
-    none_below (g.F.Field.meaning c.args.field.now) c.args.places.now c.args.bounds.l c.args.bounds.bound c.args.bounds.weight (rows_of c.interpolate-basis.result) (degrees_of c.interpolate-basis.result) c.pivot.result c.interpolate-basis.ensures c.pivot.ensures c.in_err-p.was refl
+    none_below (g.F.Field.meaning c.args.field.now) c.args.places.now c.args.bounds.l c.args.bounds.bound c.args.bounds.weight (rows_of c.meet_places.new.basis) (degrees_of c.meet_places.new.basis) c.pivot.result c.meet_places.ensures c.pivot.ensures c.in_err-p.was refl

@@ -1,6 +1,6 @@
 use Rattle.interpolation.specs.Bases.{rows_of, degrees_of}
 use Rattle.interpolation.proofs.LiftedRun.{reached_more, reached_all}
-use Rattle.interpolation.proofs.run.interpolate.Goals as goal
+use Rattle.interpolation.proofs.run.meet_places.Goals as goal
 
 pub loop-place-preserved : goal.loop-place-preserved
 loop-place-preserved g c =

@@ -1,6 +1,6 @@
 use Rattle.interpolation.specs.Bases.{rows_of, degrees_of}
 use Rattle.interpolation.proofs.LiftedRun.{Reached}
-use Rattle.interpolation.proofs.run.interpolate.Given as goal
+use Rattle.interpolation.proofs.run.meet_places.Given as goal
 
 abbrev pub invariant-loop-place : goal.invariant-loop-place
 invariant-loop-place g l =
